@@ -1,0 +1,13 @@
+pub mod Bits
+pub mod Tests
+pub mod Contexts
+pub mod Laws
+pub mod Passed
+pub mod Agree
+pub mod Progress
+pub mod Accepted
+pub mod Sound
+pub mod Walk
+pub mod Placing
+pub mod Masking
+pub mod Claims

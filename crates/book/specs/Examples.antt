@@ -1,0 +1,83 @@
+-- A refusal of each number, records with several faults, and the house book, as one statement over all rows.
+use Prim.Native.Nat.{ℕ, _+_}
+use mathlib.Core.List.{List, [], _∷_, _++_, map}
+use mathlib.Core.Path.{_≡_, refl}
+use lib.ListN.{take, set}
+use Rattle.book.specs.Format.{recordSize, symbolFits, symbolsFit, ruleReply, stateReply, given, arcReply, endReply, kindReply, recordReply}
+use Rattle.book.specs.Reading.{withRecord, readFrom, readBook, checkDef}
+use Rattle.book.specs.House.{house}
+use Rattle.book.specs.declared.Checked.{Checked}
+
+pub record Row : Type 0 where
+  pub book : List ℕ
+  pub answer : Checked
+
+abbrev refusal : List ℕ → ℕ → ℕ → Row
+refusal s r p = record { book = s; answer = record { reply = r; place = p; rules = 0; states = 0; arcs = 0 } }
+
+abbrev times : ℕ → List ℕ → List ℕ
+times ℕ.zero l = []
+times (ℕ.suc n) l = l ++ times n l
+
+abbrev rule : List ℕ
+rule = 1 ∷ 1 ∷ 10 ∷ 0 ∷ 0 ∷ 0 ∷ 0 ∷ 0 ∷ 0 ∷ 0 ∷ []
+
+abbrev state : ℕ → ℕ → List ℕ
+state part flags = 2 ∷ part ∷ flags ∷ []
+
+abbrev arc : ℕ → ℕ → ℕ → ℕ → List ℕ
+arc from low high to = 3 ∷ from ∷ low ∷ high ∷ to ∷ []
+
+abbrev end : List ℕ
+end = 4 ∷ []
+
+abbrev pub rows : List Row
+rows =
+    -- accepted: the house book; the smallest book
+    record { book = house; answer = record { reply = 0; place = 0; rules = 3; states = 19; arcs = 12 } } ∷
+    record { book = rule ++ end; answer = record { reply = 0; place = 0; rules = 1; states = 0; arcs = 0 } } ∷
+    -- 1: no kind byte; inside a body; a cut body comes before 4
+    refusal [] 1 0 ∷
+    refusal (take 147 house) 1 147 ∷
+    refusal (take 20 house) 1 19 ∷
+    refusal (2 ∷ []) 1 0 ∷
+    -- 2: an unknown kind, also before any rule
+    refusal (rule ++ (5 ∷ [])) 2 10 ∷
+    refusal (0 ∷ []) 2 0 ∷
+    -- 3: the 17th rule, also with a bad length; the 65th state, also with a bad part
+    refusal (times 17 rule) 3 160 ∷
+    refusal (times 16 rule ++ set rule 1 9) 3 160 ∷
+    refusal (rule ++ times 65 (state 0 3)) 3 202 ∷
+    refusal (rule ++ (times 64 (state 0 3) ++ state 3 0)) 3 202 ∷
+    -- 4: state, arc or end before any rule; it comes before 5 and 8
+    refusal (state 3 4) 4 0 ∷
+    refusal (arc 0 0 16 0) 4 0 ∷
+    refusal (end ++ end) 4 0 ∷
+    -- 5: a length above 8, a symbol above 15, an unused symbol that is not 0; part, flags; highest, lowest above highest; it comes before 6
+    refusal (set rule 1 9) 5 0 ∷
+    refusal (set rule 2 16) 5 0 ∷
+    refusal (set rule 3 1) 5 0 ∷
+    refusal (rule ++ state 3 0) 5 10 ∷
+    refusal (rule ++ state 1 4) 5 10 ∷
+    refusal (rule ++ arc 9 0 16 9) 5 10 ∷
+    refusal (rule ++ arc 9 2 1 9) 5 10 ∷
+    -- 6: a state not yet given, one of an earlier rule, one above all numbers, two parts
+    refusal (rule ++ arc 0 0 15 0) 6 10 ∷
+    refusal (rule ++ (state 0 1 ++ (rule ++ arc 0 0 15 0))) 6 23 ∷
+    refusal (rule ++ (state 0 1 ++ arc 0 0 15 200)) 6 13 ∷
+    refusal (rule ++ (state 0 1 ++ (state 2 1 ++ arc 0 0 15 1))) 6 16 ∷
+    -- 7: a focus state with flags 3
+    refusal (rule ++ state 1 3) 7 10 ∷
+    -- 8: a byte after the end record
+    refusal (house ++ (0 ∷ [])) 8 148 ∷
+    []
+
+abbrev bookOfRow : Row → List ℕ
+bookOfRow x = x .book
+
+abbrev answerOfRow : Row → Checked
+answerOfRow x = x .answer
+
+pub answers : map (λ (x : Row). checkDef (bookOfRow x)) rows ≡ map answerOfRow rows
+unfolding house recordSize symbolFits symbolsFit ruleReply stateReply given arcReply endReply kindReply recordReply withRecord readFrom readBook checkDef
+answers = refl

@@ -1,0 +1,115 @@
+-- Document 01, "The book" and "Reply numbers": the records, their lengths, and the tests of each kind in their order.
+-- `cond t r rest` is the reply r where the test t holds, else what the later tests give; 0 is no refusal.
+-- A `Scan` is what was given before the record: the counts of rules, states and arcs, the number of the first state
+-- of the latest rule, and the part of each state.
+use Prim.Native.Nat.{ℕ, zero, suc, _+_}
+use mathlib.Core.List.{List}
+use mathlib.Core.Bool.{Bool, true, false, not, _&&_, cond}
+use lib.ListN.{length, getD, set}
+use lib.Dec.{ltb, leb, eqb}
+use Rattle.book.specs.declared.Scan.{Scan}
+
+-- "Numbers: symbols 0 to 15; rules 1 to 16; states at most 64; arcs at most 512"; "length 0 to 8 of the replacement"
+abbrev pub symbolCount : ℕ
+symbolCount = 16
+
+abbrev pub mostRules : ℕ
+mostRules = 16
+
+abbrev pub mostStates : ℕ
+mostStates = 64
+
+abbrev pub mostArcs : ℕ
+mostArcs = 512
+
+abbrev pub longestWord : ℕ
+longestWord = 8
+
+-- the byte at a place, 0 past the end
+abbrev pub byte : List ℕ → ℕ → ℕ
+byte s i = getD s i 0
+
+-- "one byte of kind, then a body whose length the kind fixes": the length with the kind byte; 0 for an unknown kind
+unfoldable pub recordSize : ℕ → ℕ
+recordSize kind = cond (eqb kind 1) 10 (cond (eqb kind 2) 3 (cond (eqb kind 3) 5 (cond (eqb kind 4) 1 0)))
+
+-- "eight symbol bytes; unused ones are 0": byte i of a word of n symbols
+unfoldable pub symbolFits : ℕ → ℕ → ℕ → Bool
+symbolFits n i x = cond (ltb i n) (ltb x symbolCount) (eqb x 0)
+
+-- the first i symbol bytes of a word of n that starts at p
+unfoldable pub symbolsFit : List ℕ → ℕ → ℕ → ℕ → Bool
+symbolsFit s p n zero = true
+symbolsFit s p n (suc i) = symbolsFit s p n i && symbolFits n i (byte s (p + i))
+
+-- kind 1 at place `at`, after `rules` rules: 3, 5
+unfoldable pub ruleReply : List ℕ → ℕ → ℕ → ℕ
+ruleReply s at rules =
+    cond (leb mostRules rules) 3
+    (cond (ltb longestWord (byte s (at + 1))) 5
+    (cond (not (symbolsFit s (at + 2) (byte s (at + 1)) longestWord)) 5
+    0))
+
+-- kind 2, after `rules` rules and `states` states: 4, 3, 5, 7
+unfoldable pub stateReply : ℕ → ℕ → ℕ → ℕ → ℕ
+stateReply part flags rules states =
+    cond (eqb rules 0) 4
+    (cond (leb mostStates states) 3
+    (cond (ltb 2 part) 5
+    (cond (ltb 3 flags) 5
+    (cond (eqb part 1 && eqb flags 3) 7
+    0))))
+
+-- state k stands in the latest rule, whose states are those from `first` up to and not including `states`
+unfoldable pub given : ℕ → ℕ → ℕ → Bool
+given first states k = leb first k && ltb k states
+
+-- kind 3: 4, 3, 5, 6
+unfoldable pub arcReply : ℕ → ℕ → ℕ → ℕ → Scan → ℕ
+arcReply from low high to g =
+    cond (eqb (g .rules) 0) 4
+    (cond (leb mostArcs (g .arcs)) 3
+    (cond (leb symbolCount high) 5
+    (cond (ltb high low) 5
+    (cond (not (given (g .first) (g .states) from)) 6
+    (cond (not (given (g .first) (g .states) to)) 6
+    (cond (not (eqb (byte (g .parts) from) (byte (g .parts) to))) 6
+    0))))))
+
+-- kind 4: 4
+unfoldable pub endReply : ℕ → ℕ
+endReply rules = cond (eqb rules 0) 4 0
+
+-- what stands in a record, by its kind
+abbrev pub byKind {ℓ} : {A : Type ℓ} → ℕ → A → A → A → A → A
+byKind k rule state arc end = cond (eqb k 1) rule (cond (eqb k 2) state (cond (eqb k 3) arc end))
+
+-- the kind's own tests of the record at `at`
+unfoldable pub kindReply : List ℕ → ℕ → Scan → ℕ
+kindReply s at g =
+    byKind (byte s at)
+    (ruleReply s at (g .rules))
+    (stateReply (byte s (at + 1)) (byte s (at + 2)) (g .rules) (g .states))
+    (arcReply (byte s (at + 1)) (byte s (at + 2)) (byte s (at + 3)) (byte s (at + 4)) g)
+    (endReply (g .rules))
+
+-- "In one record: missing kind 1, then 2, cut body 1, then 4, 3, 5, 6, 7": the reply on the record at `at`
+unfoldable pub recordReply : List ℕ → ℕ → Scan → ℕ
+recordReply s at g =
+    cond (leb (length s) at) 1
+    (cond (eqb (recordSize (byte s at)) 0) 2
+    (cond (ltb (length s) (at + recordSize (byte s at))) 1
+    (kindReply s at g)))
+
+-- what is given with a record more
+abbrev pub ruleMore : Scan → Scan
+ruleMore g = record { rules = g .rules + 1; states = g .states; arcs = g .arcs; first = g .states; parts = g .parts }
+
+abbrev pub stateMore : ℕ → Scan → Scan
+stateMore part g = record { rules = g .rules; states = g .states + 1; arcs = g .arcs; first = g .first; parts = set (g .parts) (g .states) part }
+
+abbrev pub arcMore : Scan → Scan
+arcMore g = record { rules = g .rules; states = g .states; arcs = g .arcs + 1; first = g .first; parts = g .parts }
+
+unfoldable pub recordMore : List ℕ → ℕ → Scan → Scan
+recordMore s at g = byKind (byte s at) (ruleMore g) (stateMore (byte s (at + 1)) g) (arcMore g) g

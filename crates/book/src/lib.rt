@@ -1,0 +1,250 @@
+// CHECK: a book of context rules, read record by record.
+ghost use mathlib.Core.Path.{_≡_};
+ghost use Prim.Native.Nat.{_+_, _≤_, _<_};
+ghost use lib.ListN.{length};
+ghost use Rattle.book.specs.Format.{longestWord, mostStates, byte, recordSize, symbolFits, symbolsFit, given, ruleReply, stateReply, arcReply, kindReply, recordReply, recordMore};
+ghost use Rattle.book.specs.Reading.{refused, answer, checkDef};
+
+pub mod outline; // outline.rt: where an accepted book's states stand, and which of them start or accept
+
+// The numbers of document 01.
+pub const SYMBOLS: u8 = 16;
+
+pub const RULES: usize = 16;
+
+pub const STATES: usize = 64;
+
+pub const ARCS: usize = 512;
+
+pub const WORD: usize = 8;
+
+// CHECK's answer: the reply, its place, and the counts of an accepted book.
+pub struct Checked {
+    pub reply: u8,
+    pub place: usize,
+    pub rules: usize,
+    pub states: usize,
+    pub arcs: usize,
+}
+
+// What the records so far have given: their counts, the number of the latest rule's first state, and each state's part.
+pub struct Scan {
+    pub rules: usize,
+    pub states: usize,
+    pub arcs: usize,
+    pub first: usize,
+    pub parts: [u8; STATES],
+}
+
+// The length of a record with its kind byte; 0 for an unknown kind.
+pub fn record_size(kind: u8) -> usize
+    ensures { λ r. ⌜ r ≡ recordSize kind ⌝ }
+{
+    match kind {
+        1 => 10,
+        2 => 3,
+        3 => 5,
+        4 => 1,
+        0 | 5..=255 => 0,
+    }
+}
+
+fn symbol_fits(n: usize, i: usize, x: u8) -> bool
+    ensures { λ r. ⌜ r ≡ symbolFits n i x ⌝ }
+{
+    if i < n { x < SYMBOLS } else { x == 0 }
+}
+
+fn symbols_fit(s: &[u8], p: usize, n: usize) -> bool
+    requires { ⌜ p + longestWord ≤ length (now s) ⌝ }
+    ensures { λ r. ⌜ r ≡ symbolsFit (now (s .entry)) p n longestWord ⌝ }
+{
+    let mut ok = true;
+    let mut i = 0;
+    while i < WORD {
+        let x = s[p + i];
+        let one = symbol_fits(n, i, x);
+        ok = ok && one;
+        i += 1;
+    }
+    ok
+}
+
+fn rule_reply(s: &[u8], at: usize, rules: usize) -> u8
+    requires { ⌜ at + 10 ≤ length (now s) ⌝ }
+    ensures { λ r. ⌜ r ≡ ruleReply (now (s .entry)) at rules ⌝ }
+{
+    if RULES <= rules {
+        return 3;
+    }
+    let n = s[at + 1] as usize;
+    if WORD < n {
+        return 5;
+    }
+    if symbols_fit(s, at + 2, n) {
+        return 0;
+    }
+    5
+}
+
+fn state_reply(part: u8, flags: u8, rules: usize, states: usize) -> u8
+    ensures { λ r. ⌜ r ≡ stateReply part flags rules states ⌝ }
+{
+    if rules == 0 {
+        return 4;
+    }
+    if STATES <= states {
+        return 3;
+    }
+    match part {
+        0..=2 => {}
+        _ => return 5,
+    }
+    match flags {
+        0..=3 => {}
+        _ => return 5,
+    }
+    if part == 1 {
+        if flags == 3 {
+            return 7;
+        }
+    }
+    0
+}
+
+fn given(first: usize, states: usize, k: usize) -> bool
+    ensures { λ r. ⌜ r ≡ given first states k ⌝ }
+{
+    first <= k && k < states
+}
+
+fn arc_reply(from: u8, low: u8, high: u8, to: u8, scan: Scan) -> u8
+    requires { ⌜ scan .states ≤ mostStates ⌝ }
+    ensures { λ r. ⌜ r ≡ arcReply from low high to scan ⌝ }
+{
+    if scan.rules == 0 {
+        return 4;
+    }
+    if ARCS <= scan.arcs {
+        return 3; // the 513th arc
+    }
+    if SYMBOLS <= high {
+        return 5; // no such symbol
+    }
+    if high < low {
+        return 5;
+    }
+    let a = from as usize;
+    let b = to as usize;
+    if given(scan.first, scan.states, a) {
+        if given(scan.first, scan.states, b) {
+            if scan.parts[a] == scan.parts[b] {
+                return 0;
+            }
+        }
+    }
+    6
+}
+
+// The kind's own tests of the record at `at`.
+fn kind_reply(s: &[u8], at: usize, scan: Scan) -> u8
+    requires { ⌜ (at < length (now s)) × ((at + recordSize (byte (now s) at) ≤ length (now s)) × (scan .states ≤ mostStates)) ⌝ }
+    ensures { λ r. ⌜ r ≡ kindReply (now (s .entry)) at scan ⌝ }
+{
+    let kind = s[at];
+    match kind {
+        1 => rule_reply(s, at, scan.rules),
+        2 => state_reply(s[at + 1], s[at + 2], scan.rules, scan.states),
+        3 => arc_reply(s[at + 1], s[at + 2], s[at + 3], s[at + 4], scan),
+        _ => { if scan.rules == 0 { 4 } else { 0 } }
+    }
+}
+
+// The reply on the record at `at`: 0 is no refusal.
+fn record_reply(s: &[u8], at: usize, scan: Scan) -> u8
+    requires { ⌜ scan .states ≤ mostStates ⌝ }
+    ensures { λ r. ⌜ r ≡ recordReply (now (s .entry)) at scan ⌝ }
+{
+    if s.len() <= at {
+        return 1;
+    }
+    let size = record_size(s[at]);
+    if size == 0 {
+        return 2;
+    }
+    if s.len() - at < size {
+        return 1;
+    }
+    kind_reply(s, at, scan)
+}
+
+// What is given with the record at `at`, which passed its tests.
+fn with_record(s: &[u8], at: usize, scan: Scan) -> Scan
+    requires { ⌜ recordReply (now s) at scan ≡ 0 ⌝ }
+    ensures { λ r. ⌜ r ≡ recordMore (now (s .entry)) at scan ⌝ }
+{
+    let kind = s[at];
+    let mut next = scan;
+    match kind {
+        1 => {
+            next.rules = scan.rules + 1;
+            next.first = scan.states;
+        }
+        2 => {
+            let k = scan.states;
+            next.parts[k] = s[at + 1];
+            next.states = k + 1;
+        }
+        3 => next.arcs = scan.arcs + 1,
+        _ => {}
+    }
+    next
+}
+
+fn refusal(reply: u8, place: usize) -> Checked
+    ensures { λ r. ⌜ r ≡ answer (refused reply place) ⌝ }
+{
+    Checked {
+        reply,
+        place,
+        rules: 0,
+        states: 0,
+        arcs: 0,
+    }
+}
+
+// Document 01's CHECK: any bytes get their reply.
+pub fn check(book: &[u8]) -> Checked
+    ensures { λ r. ⌜ r ≡ checkDef (now (book .entry)) ⌝ }
+{
+    let mut scan = Scan {
+        rules: 0,
+        states: 0,
+        arcs: 0,
+        first: 0,
+        parts: [0u8; STATES],
+    };
+    let mut at = 0;
+    while at < book.len() {
+        let reply = record_reply(book, at, scan);
+        if reply != 0 {
+            return refusal(reply, at);
+        }
+        let kind = book[at];
+        if kind == 4 {
+            if at + 1 < book.len() {
+                return refusal(8, at + 1);
+            }
+            return Checked {
+                reply: 0,
+                place: 0,
+                rules: scan.rules,
+                states: scan.states,
+                arcs: scan.arcs,
+            };
+        }
+        scan = with_record(book, at, scan);
+        at += record_size(kind);
+    }
+    refusal(1, at)
+}
