@@ -2,7 +2,7 @@
 use Prim.Native.Nat.{ℕ, zero, suc, _+_, _-_, _≤_, _<_, min}
 use native.Mathlib.Decide.{decLt}
 use mathlib.Core.Path.{_≡_, refl, ap, sym, subst, _∙_}
-use mathlib.Core.List.{List, [], _∷_, _++_, map}
+use mathlib.Core.List.{List, [], _∷_, _++_, map, List·Memᴰ, List·Memᴰ·head, List·Memᴰ·tail}
 use mathlib.Core.Bool.{Bool, true, false, not, _&&_, cond, false≢true}
 use native.Mathlib.Numerals.{add-one}
 use native.Mathlib.Omega.{arith}
@@ -215,3 +215,11 @@ none =
 
 pub accepted-sound : (s : List ℕ) (B : Book) → readBook s ≡ accepted B → Sound B
 accepted-sound s B h = accepted-ind s Sound (keep s) B h none
+
+-- what holds at each place of a list holds of each element
+at-each : {A : Type 0} (P : A → Type 0) (l : List A) (d : A) → ((k : ℕ) → k < length l → P (getD l k d)) → {x : A} → List·Memᴰ x l → P x
+at-each P (y ∷ l) d f (List·Memᴰ·head e) = subst P (sym e) (f 0 (omega arith))
+at-each P (y ∷ l) d f (List·Memᴰ·tail m) = at-each P l d (λ k h. f (suc k) (omega arith)) m
+
+pub arc-fits : {b : Book} → Sound b → {x : Arc} → List·Memᴰ x (b .arcs) → ArcFits b x
+arc-fits {b} o = at-each (ArcFits b) (b .arcs) noArc (o .arc)

@@ -1,0 +1,101 @@
+-- What BUILD's reply and counts say of the book: "The count for a side is the number of different sets over all tapes of any length";
+-- 13 and 14 are given exactly when there are more than 256.
+use Prim.Native.Nat.{ℕ, _≤_, _<_}
+use mathlib.Core.Path.{_≡_, sym, ap, _∙_}
+use mathlib.Core.Logic.{_↔_, _⊎_, inl, inr}
+use mathlib.Core.List.{List}
+use native.Mathlib.Omega.{arith}
+use native.Mathlib.Decide.{decLt}
+use lib.ListN.{length}
+use Rattle.book.specs.Reading.{bookOf}
+use Rattle.sets.specs.Numbering.{mostSets}
+use Rattle.sets.specs.Workspace.{rowBytes, setWords, leftTable, rightTable, leftCount, rightCount, AfterBuild, buildDef}
+use Rattle.sets.specs.Counting.{leftOver, rightOver, Exactly, MoreThan}
+use Rattle.sets.proofs.Counts.{front, end, law-exactly, law-many, law-few}
+use Rattle.sets.proofs.WaysOut.{Room, Way, refused, short, many-left, many-right, built, way}
+
+-- more than 256 left sets, right sets, by the numbering and over all tapes
+pub left-many : (book : List ℕ) → (mostSets < leftCount book) ↔ MoreThan (leftOver (bookOf book)) mostSets
+unfolding leftCount leftTable
+left-many book = (law-many _ _ _ (front _ _), law-few _ _ _ (front _ _))
+
+pub right-many : (book : List ℕ) → (mostSets < rightCount book) ↔ MoreThan (rightOver (bookOf book)) mostSets
+unfolding rightCount rightTable
+right-many book = (law-many _ _ _ (end _ _), law-few _ _ _ (end _ _))
+
+-- not more: the count is exactly the number of different sets
+pub left-exactly : (book : List ℕ) → leftCount book ≤ mostSets → Exactly (leftOver (bookOf book)) (leftCount book)
+unfolding leftCount leftTable
+left-exactly book few = law-exactly _ _ _ (front _ _) few
+
+pub right-exactly : (book : List ℕ) → rightCount book ≤ mostSets → Exactly (rightOver (bookOf book)) (rightCount book)
+unfolding rightCount rightTable
+right-exactly book few = law-exactly _ _ _ (end _ _) few
+
+abbrev reply : AfterBuild → ℕ
+reply x = x .answer .reply
+
+-- the counts of an accepted book
+module _ (book R S : List ℕ) where
+  counts : (x : AfterBuild) → Way book R S x → reply x ≡ 0 → (x .answer .left ≡ leftCount book) × (x .answer .right ≡ rightCount book) × (leftCount book ≤ mostSets) × (rightCount book ≤ mostSets)
+  unfolding leftCount rightCount
+  counts x (refused h e) z = absurd (h (sym (ap reply e) ∙ z))
+  counts x (short h s e) z = absurd (let q = ap reply e in omega arith)
+  counts x (many-left o l e) z = absurd (let q = ap reply e in omega arith)
+  counts x (many-right o l r e) z = absurd (let q = ap reply e in omega arith)
+  counts x (built o l r e) z = (ap (λ (y : AfterBuild). y .answer .left) e, ap (λ (y : AfterBuild). y .answer .right) e, l, r)
+
+  pub left-count : reply (buildDef book R S) ≡ 0 → Exactly (leftOver (bookOf book)) (buildDef book R S .answer .left)
+  left-count z = let c = counts (buildDef book R S) (way book R S) z in rw (c .0) (left-exactly book (c .2))
+
+  pub right-count : reply (buildDef book R S) ≡ 0 → Exactly (rightOver (bookOf book)) (buildDef book R S .answer .right)
+  right-count z = let c = counts (buildDef book R S) (way book R S) z in rw (c .1) (right-exactly book (c .3))
+
+-- the reply of an accepted book in a workspace that is long enough
+data Judged (book : List ℕ) (r : ℕ) : Type 0 where
+  left : mostSets < leftCount book → r ≡ 13 → Judged book r
+  right : leftCount book ≤ mostSets → mostSets < rightCount book → r ≡ 14 → Judged book r
+  neither : leftCount book ≤ mostSets → rightCount book ≤ mostSets → r ≡ 0 → Judged book r
+
+module _ (book R S : List ℕ) (o : Room book R S) where
+  no-room : (length R < rowBytes) ⊎ (length S < setWords) → ⊥
+  no-room (inl h) = omega (arith, o .rows)
+  no-room (inr h) = omega (arith, o .sets)
+
+  judge : (x : AfterBuild) → Way book R S x → Judged book (reply x)
+  judge x (refused h e) = absurd (h (o .accepted))
+  judge x (short h s e) = absurd (no-room s)
+  judge x (many-left p l e) = left l (ap reply e)
+  judge x (many-right p l r e) = right l r (ap reply e)
+  judge x (built p l r e) = neither l r (ap reply e)
+
+  judged : Judged book (reply (buildDef book R S))
+  judged = judge (buildDef book R S) (way book R S)
+
+  by-left : (r : ℕ) → Judged book r → (r ≡ 13) ↔ (mostSets < leftCount book)
+  by-left r (left h e) = (λ _. h, λ _. e)
+  by-left r (right h g e) = (λ z. absurd (omega arith), λ l. absurd (omega arith))
+  by-left r (neither h g e) = (λ z. absurd (omega arith), λ l. absurd (omega arith))
+
+  by-right : (r : ℕ) → Judged book r → (r ≡ 14) ↔ ((leftCount book ≤ mostSets) × (mostSets < rightCount book))
+  by-right r (left h e) = (λ z. absurd (omega arith), λ l. absurd (omega arith))
+  by-right r (right h g e) = (λ _. (h, g), λ _. e)
+  by-right r (neither h g e) = (λ z. absurd (omega arith), λ l. absurd (omega arith))
+
+  at-most : (n : ℕ) (P : Type 0) → (mostSets < n) ↔ P → (n ≤ mostSets) ↔ (P → ⊥)
+  at-most n P e = (λ h p. omega (arith, e .1 p), λ f. by (decLt mostSets n) f)
+    where
+      by : Dec (mostSets < n) → (P → ⊥) → n ≤ mostSets
+      by (yes h) f = absurd (f (e .0 h))
+      by (no h) f = omega arith
+
+  -- 13 exactly when there are more than 256 left sets; 14 exactly when there are not, and more than 256 right sets
+  pub reply-13 : (reply (buildDef book R S) ≡ 13) ↔ MoreThan (leftOver (bookOf book)) mostSets
+  reply-13 = let p = by-left _ judged in let q = left-many book in (λ z. q .0 (p .0 z), λ m. p .1 (q .1 m))
+
+  pub reply-14 : (reply (buildDef book R S) ≡ 14) ↔ ((MoreThan (leftOver (bookOf book)) mostSets → ⊥) × MoreThan (rightOver (bookOf book)) mostSets)
+  reply-14 =
+      let p = by-right _ judged in
+      let f = at-most _ _ (left-many book) in
+      let q = right-many book in
+      (λ z. let h = p .0 z in (f .0 (h .0), q .0 (h .1)), λ m. p .1 (f .1 (m .0), q .1 (m .1)))

@@ -1,0 +1,294 @@
+-- The sets that the code gives are those of the definitions: state by state, for every number.
+use Prim.Native.Nat.{ℕ, zero, suc, _^_, _≤_, _<_, zero-le}
+use mathlib.Core.Path.{_≡_, refl, ap, ap₂, sym, subst, _∙_}
+use mathlib.Core.Logic.{_≢_}
+use mathlib.Core.Bool.{Bool, true, false, cond, not, _&&_, _||_}
+use mathlib.Core.Bool as B
+use mathlib.Core.List.{List, [], _∷_, map}
+use native.Mathlib.Decide.{ℕ-discrete, decLt}
+use native.Mathlib.Omega.{arith}
+use lib.Dec.{T, T-not, not-T, eqb, leb, ltb, eqb→eq}
+use lib.Bits.{bitOr, bitAnd, and-le-r}
+use lib.Count.{trailingZeros}
+use lib.ListN.{length, getD, List·getD-eq-default}
+use borrow.Author.Tests.{eq-eqb, ne-eqb, lt-ltb, le-ltb}
+use Rattle.book.specs.Format.{mostRules, mostStates}
+use Rattle.book.specs.Reading.{State, Arc, Book}
+use Rattle.book.specs.Language.{any, someState, opens, noState, stateOf, isOf, starts, ends, isStart, isAccept}
+use Rattle.book.specs.Outline.{ruleMask, allMask, EachMask}
+use Rattle.book.specs.Sound.{Sound, noArc, arcOf}
+use Rattle.book.specs.StateSets.{member, encode}
+use Rattle.book.proofs.Bits.{member-or, member-and, member-none, member-encode, member-past, encode-lt, ext, lowest}
+use Rattle.book.proofs.Masking.{no-state}
+use Rattle.book.proofs.Tests.{same-test, any-up}
+use Rattle.sets.specs.Sets.{setOf, intoBy, backBy, leftFirst, leftNext, near, closed, rightLast, rightPrev, focusFirst, focusNext}
+use Rattle.sets.specs.Stepping.{leaves, turned, stepArcs, joins, gather}
+use Rattle.sets.proofs.Folds.{member-step}
+
+-- the members of a set, for every number
+pub member-set : (f : ℕ → Bool) (n : ℕ) → ((s : ℕ) → n ≤ s → f s ≡ false) → (s : ℕ) → member (encode f n) s ≡ f s
+member-set f n h s = go (decLt s n)
+  where
+    go : Dec (s < n) → member (encode f n) s ≡ f s
+    go (yes l) = member-encode f n s l
+    go (no l) = member-past n (encode f n) s (encode-lt f n) (omega arith) ∙ sym (h s (omega arith))
+
+-- no test of states is passed where there is no state
+module _ (b : Book) where
+  none-of : (part flag s : ℕ) → length (b .states) ≤ s → isOf part flag (stateOf b s) ≡ false
+  none-of part flag s h = ap (isOf part flag) (List·getD-eq-default (b .states) noState {n = s} h) ∙ no-state part flag
+
+  none-rule : (part flag r s : ℕ) → length (b .states) ≤ s → (eqb (stateOf b s .rule) r && isOf part flag (stateOf b s)) ≡ false
+  none-rule part flag r s h = ap (λ (x : Bool). eqb (stateOf b s .rule) r && x) (none-of part flag s h) ∙ B.and-false (eqb (stateOf b s .rule) r)
+
+  module _ (o : Sound b) where
+    member-all : (part flag s : ℕ) → member (allMask part flag (b .states)) s ≡ isOf part flag (stateOf b s)
+    unfolding allMask
+    member-all part flag s = member-set (λ k. isOf part flag (stateOf b k)) mostStates (λ k h. none-of part flag k (omega (arith, o .states))) s
+
+    member-rule : (part flag r s : ℕ) → member (ruleMask part flag (b .states) r) s ≡ (eqb (stateOf b s .rule) r && isOf part flag (stateOf b s))
+    unfolding ruleMask
+    member-rule part flag r s = member-set (λ k. eqb (stateOf b k .rule) r && isOf part flag (stateOf b k)) mostStates (λ k h. none-rule part flag r k (omega (arith, o .states))) s
+
+    member-of : (f : ℕ → Bool) → ((s : ℕ) → length (b .states) ≤ s → f s ≡ false) → (s : ℕ) → member (setOf b f) s ≡ f s
+    unfolding setOf
+    member-of f h s = member-set f (length (b .states)) h s
+
+-- the step's members as the definitions say them
+into-one : (m l h e e′ t : Bool) → e ≡ e′ → t ≡ true → (m && (l && h) && e) ≡ (m && ((t && (l && h)) && e′))
+into-one m l h e e′ t p q = rw (p, q) (go m l h e′)
+  where
+    go : (m l h e : Bool) → (m && (l && h) && e) ≡ (m && ((true && (l && h)) && e))
+    go true true true e = refl
+    go true true false e = refl
+    go true false h e = refl
+    go false l h e = refl
+
+back-one : (m l h e e′ : Bool) → e ≡ e′ → (m && (l && h) && e) ≡ ((e′ && (l && h)) && m)
+back-one m l h e e′ p = rw p (go m l h e′)
+  where
+    go : (m l h e : Bool) → (m && (l && h) && e) ≡ ((e && (l && h)) && m)
+    go true true true true = refl
+    go true true true false = refl
+    go true true false true = refl
+    go true true false false = refl
+    go true false h true = refl
+    go true false h false = refl
+    go false true true true = refl
+    go false true true false = refl
+    go false true false true = refl
+    go false true false false = refl
+    go false false h true = refl
+    go false false h false = refl
+
+eqb-sym : (x y : ℕ) → eqb x y ≡ eqb y x
+eqb-sym x y = go (ℕ-discrete x y)
+  where
+    go : Dec (x ≡ y) → eqb x y ≡ eqb y x
+    go (yes e) = eq-eqb _ _ e ∙ sym (eq-eqb _ _ (sym e))
+    go (no f) = ne-eqb _ _ f ∙ sym (ne-eqb _ _ (λ e. f (sym e)))
+
+step-into : (arcs : List Arc) (X c s : ℕ)
+    → any (λ a. leaves X c a && eqb s (a .to)) (map (turned 1 4) arcs) ≡ any (λ (x : Arc). member X (x .from) && (opens x (x .from) c && eqb (x .to) s)) arcs
+unfolding turned
+step-into [] X c s = refl
+step-into (a ∷ arcs) X c s =
+    ap₂ (λ (p q : Bool). p || q)
+    (into-one (member X (a .from)) (leb (a .low) c) (leb c (a .high)) (eqb s (a .to)) (eqb (a .to) s) (eqb (a .from) (a .from)) (eqb-sym s (a .to)) (eq-eqb (a .from) (a .from) refl))
+    (step-into arcs X c s)
+
+step-back : (arcs : List Arc) (X c s : ℕ)
+    → any (λ a. leaves X c a && eqb s (a .to)) (map (turned 4 1) arcs) ≡ any (λ (x : Arc). opens x s c && member X (x .to)) arcs
+unfolding turned
+step-back [] X c s = refl
+step-back (a ∷ arcs) X c s =
+    ap₂ (λ (p q : Bool). p || q)
+    (back-one (member X (a .to)) (leb (a .low) c) (leb c (a .high)) (eqb s (a .from)) (eqb (a .from) s) (eqb-sym s (a .from)))
+    (step-back arcs X c s)
+
+pub member-into : (b : Book) (X c s : ℕ) → member (stepArcs 1 4 (b .arcs) X c) s ≡ intoBy b X c s
+unfolding stepArcs intoBy
+member-into b X c s = member-step c (map (turned 1 4) (b .arcs)) X s ∙ step-into (b .arcs) X c s
+
+pub member-back : (b : Book) (X c s : ℕ) → member (stepArcs 4 1 (b .arcs) X c) s ≡ backBy b X c s
+unfolding stepArcs backBy
+member-back b X c s = member-step c (map (turned 4 1) (b .arcs)) X s ∙ step-back (b .arcs) X c s
+
+-- no arc leads to what is no state, and none leaves it
+any-none : (f : Arc → Bool) (arcs : List Arc) → ((j : ℕ) → j < length arcs → f (getD arcs j noArc) ≡ false) → any f arcs ≡ false
+any-none f [] h = refl
+any-none f (a ∷ arcs) h = ap₂ (λ (p q : Bool). p || q) (h 0 (omega arith)) (any-none f arcs (λ j l. h (suc j) (omega arith)))
+
+into-past : (b : Book) (X c s : ℕ) → Sound b → length (b .states) ≤ s → intoBy b X c s ≡ false
+unfolding intoBy
+into-past b X c s o h =
+    any-none (λ (x : Arc). member X (x .from) && (opens x (x .from) c && eqb (x .to) s)) (b .arcs)
+    (λ j l. let n : arcOf b j .to ≢ s = λ e. absurd (omega (arith, o .arc j l .to)) in simp (ne-eqb _ _ n, B.and-false))
+
+back-past : (b : Book) (X c s : ℕ) → Sound b → length (b .states) ≤ s → backBy b X c s ≡ false
+unfolding backBy
+back-past b X c s o h =
+    any-none (λ (x : Arc). opens x s c && member X (x .to)) (b .arcs)
+    (λ j l. let n : arcOf b j .from ≢ s = λ e. absurd (omega (arith, o .arc j l .from)) in simp (ne-eqb _ _ n))
+
+or-false : (x y : Bool) → x ≡ false → y ≡ false → (x || y) ≡ false
+or-false x y e f = ap₂ (λ (p q : Bool). p || q) e f
+
+pub left-next : (b : Book) (X c : ℕ) → Sound b → bitOr (allMask 0 1 (b .states)) (stepArcs 1 4 (b .arcs) X c) ≡ leftNext b X c
+unfolding leftNext
+left-next b X c o =
+    ext _ _ (λ s. member-or (allMask 0 1 (b .states)) (stepArcs 1 4 (b .arcs) X c) s
+    ∙ ap₂ (λ (p q : Bool). p || q) (member-all b o 0 1 s) (member-into b X c s)
+    ∙ sym (member-of b o (λ k. starts b 0 k || intoBy b X c k) (λ k h. or-false (starts b 0 k) (intoBy b X c k) (none-of b 0 1 k h) (into-past b X c k o h)) s))
+
+-- ---- the closure
+
+member-joins : (t : Bool) (a s : ℕ) → member (cond t 0 a) s ≡ (not t && member a s)
+member-joins true a s = member-none s
+member-joins false a s = refl
+
+join-same : (k e : Bool) → ((false && (e && k)) || (k && (true && e))) ≡ (true && (e && k))
+join-same true true = refl
+join-same true false = refl
+join-same false true = refl
+join-same false false = refl
+
+join-other : (t k e : Bool) → (t || (k && (false && e))) ≡ t
+join-other true k e = refl
+join-other false true e = refl
+join-other false false e = refl
+
+-- what is given by the masks of two parts with their flags
+module _ (b : Book) (o : Sound b) (p₁ f₁ p₂ f₂ : ℕ) (x : ℕ) (S A : List ℕ) (ms : EachMask p₁ f₁ (b .states) S) (ma : EachMask p₂ f₂ (b .states) A) where
+  tested : ℕ → ℕ → Bool
+  tested r s = (eqb (stateOf b s .rule) r && isOf p₁ f₁ (stateOf b s)) && member x s
+
+  both : (r s : ℕ) → r < mostRules → member (bitAnd x (getD S r 0)) s ≡ tested r s
+  unfolding tested
+  both r s h =
+      member-and x (getD S r 0) s
+      ∙ ap (λ (q : Bool). member x s && q) (ap (λ (y : ℕ). member y s) (ms r h) ∙ member-rule b o p₁ f₁ r s)
+      ∙ B.and-comm (member x s) (eqb (stateOf b s .rule) r && isOf p₁ f₁ (stateOf b s))
+
+  small : (r : ℕ) → r < mostRules → bitAnd x (getD S r 0) < 2 ^ mostStates
+  unfolding ruleMask
+  small r h = omega (arith, and-le-r x (getD S r 0), ms r h, encode-lt (λ k. eqb (stateOf b k .rule) r && isOf p₁ f₁ (stateOf b k)) mostStates)
+
+  inside : (r k : ℕ) → tested r k ≡ true → k < length (b .states)
+  unfolding tested
+  inside r k e = by (decLt k (length (b .states)))
+    where
+      by : Dec (k < length (b .states)) → k < length (b .states)
+      by (yes l) = l
+      by (no l) = absurd (B.false≢true (sym (ap (λ (p : Bool). p && member x k) (none-rule b p₁ f₁ r k (omega arith))) ∙ e))
+
+  meets : (r : ℕ) → r < mostRules → not (eqb (bitAnd x (getD S r 0)) 0) ≡ someState b (tested r)
+  meets r h = same-test _ _ (some, other)
+    where
+      m : ℕ
+      m = bitAnd x (getD S r 0)
+
+      some : T (not (eqb m 0)) → T (someState b (tested r))
+      some t =
+          let k = trailingZeros mostStates m in
+          let n : m ≡ 0 → ⊥ = λ q. T-not (eqb m 0) t (subst T (sym (eq-eqb m 0 q)) tt) in
+          let e : tested r k ≡ true = sym (both r k h) ∙ lowest mostStates m (omega (arith, n)) (small r h) .is-in in
+          any-up (tested r) 0 (length (b .states)) .1 (k, zero-le, omega (arith, inside r k e), subst T (sym e) tt)
+
+      other : T (someState b (tested r)) → T (not (eqb m 0))
+      other t =
+          let z = any-up (tested r) 0 (length (b .states)) .0 t in
+          not-T (eqb m 0) (λ q. subst T (sym (both r (z .0) h) ∙ ap (λ (y : ℕ). member y (z .0)) (eqb→eq m 0 q) ∙ member-none (z .0)) (z .3))
+
+  K : ℕ → Bool
+  K r = someState b (tested r)
+
+  gather-below : (n s : ℕ) → n ≤ mostRules → member (gather n x S A) s ≡ (ltb (stateOf b s .rule) n && (isOf p₂ f₂ (stateOf b s) && K (stateOf b s .rule)))
+  unfolding gather K
+  gather-below zero s h =
+      member-none s ∙ ap (λ (t : Bool). t && (isOf p₂ f₂ (stateOf b s) && K (stateOf b s .rule))) (sym (le-ltb (stateOf b s .rule) 0 (omega arith)))
+  gather-below (suc n) s h =
+      member-or (gather n x S A) (joins x (getD S n 0) (getD A n 0)) s
+      ∙ ap₂ (λ (p q : Bool). p || q) (gather-below n s (omega arith))
+      (member-joins (eqb (bitAnd x (getD S n 0)) 0) (getD A n 0) s
+      ∙ ap₂ (λ (p q : Bool). p && q) (meets n (omega arith)) (ap (λ (y : ℕ). member y s) (ma n (omega arith)) ∙ member-rule b o p₂ f₂ n s))
+      ∙ go (ℕ-discrete (stateOf b s .rule) n)
+    where
+      r : ℕ
+      r = stateOf b s .rule
+
+      E : Bool
+      E = isOf p₂ f₂ (stateOf b s)
+
+      still : Dec (r < n) → (r ≢ n) → ltb r n ≡ ltb r (suc n)
+      still (yes l) g = lt-ltb _ _ l ∙ sym (lt-ltb r (suc n) (omega arith))
+      still (no l) g = le-ltb r n (omega arith) ∙ sym (le-ltb r (suc n) (omega (arith, g)))
+
+      go : Dec (r ≡ n) → ((ltb r n && (E && K r)) || (K n && (eqb r n && E))) ≡ (ltb r (suc n) && (E && K r))
+      go (yes e) =
+          ap₂ (λ (t u : Bool). (t && (E && K r)) || (K n && (u && E))) (le-ltb r n (omega arith)) (eq-eqb _ _ e)
+          ∙ ap (λ (j : ℕ). (false && (E && K r)) || (K j && (true && E))) (sym e)
+          ∙ join-same (K r) E
+          ∙ ap (λ (t : Bool). t && (E && K r)) (sym (lt-ltb r (suc n) (omega arith)))
+      go (no g) =
+          ap (λ (u : Bool). (ltb r n && (E && K r)) || (K n && (u && E))) (ne-eqb _ _ g)
+          ∙ join-other (ltb r n && (E && K r)) (K n) E
+          ∙ ap (λ (t : Bool). t && (E && K r)) (still (decLt r n) g)
+
+  rule-small : (s : ℕ) → Dec (s < length (b .states)) → stateOf b s .rule < mostRules
+  rule-small s (yes l) = omega (arith, o .rule s l, o .rules)
+  rule-small s (no l) = omega (arith, ap (λ (st : State). st .rule) (List·getD-eq-default (b .states) noState {n = s} (omega arith)))
+
+  pub member-gather : (s : ℕ) → member (gather mostRules x S A) s
+      ≡ (isOf p₂ f₂ (stateOf b s) && someState b (λ (p : ℕ). (eqb (stateOf b p .rule) (stateOf b s .rule) && isOf p₁ f₁ (stateOf b p)) && member x p))
+  unfolding K tested
+  member-gather s =
+      gather-below mostRules s (omega arith)
+      ∙ ap (λ (t : Bool). t && (isOf p₂ f₂ (stateOf b s) && K (stateOf b s .rule))) (lt-ltb _ _ (rule-small s (decLt s (length (b .states)))))
+
+close-is : (b : Book) (o : Sound b) (f : ℕ → Bool) → ((s : ℕ) → length (b .states) ≤ s → f s ≡ false) → (x : ℕ) → ((s : ℕ) → member x s ≡ near b f s)
+    → (S A : List ℕ) → EachMask 2 1 (b .states) S → EachMask 1 2 (b .states) A → bitOr x (gather mostRules x S A) ≡ closed b f
+unfolding closed isStart
+close-is b o f past x is S A ms ma =
+    ext _ _ (λ s. member-or x (gather mostRules x S A) s
+    ∙ ap₂ (λ (p q : Bool). p || q) (is s)
+    (member-gather b o 2 1 1 2 x S A ms ma s ∙ ap (λ (g : ℕ → Bool). ends b 1 s && someState b (λ (p : ℕ). isStart b (stateOf b s .rule) 2 p && g p)) (λ i p. is p i))
+    ∙ sym (member-of b o (λ k. near b f k || (ends b 1 k && K′ k))
+    (λ k h. or-false (near b f k) (ends b 1 k && K′ k) (or-false (f k) (ends b 2 k) (past k h) (none-of b 2 2 k h)) (ap (λ (p : Bool). p && K′ k) (none-of b 1 2 k h))) s))
+  where
+    K′ : ℕ → Bool
+    K′ k = someState b (λ (p : ℕ). isStart b (stateOf b k .rule) 2 p && near b f p)
+
+pub right-prev : (b : Book) (X c x : ℕ) (S A : List ℕ) → Sound b → x ≡ bitOr (allMask 2 2 (b .states)) (stepArcs 4 1 (b .arcs) X c)
+    → EachMask 2 1 (b .states) S → EachMask 1 2 (b .states) A → bitOr x (gather mostRules x S A) ≡ rightPrev b X c
+unfolding rightPrev
+right-prev b X c x S A o e ms ma =
+    close-is b o (backBy b X c) (λ s h. back-past b X c s o h) x
+    (λ s. ap (λ (y : ℕ). member y s) e ∙ member-or (allMask 2 2 (b .states)) (stepArcs 4 1 (b .arcs) X c) s
+    ∙ ap₂ (λ (p q : Bool). p || q) (member-all b o 2 2 s) (member-back b X c s) ∙ B.or-comm (ends b 2 s) (backBy b X c s))
+    S A ms ma
+
+pub right-last : (b : Book) (x : ℕ) (S A : List ℕ) → Sound b → x ≡ allMask 2 2 (b .states) → EachMask 2 1 (b .states) S → EachMask 1 2 (b .states) A → bitOr x (gather mostRules x S A) ≡ rightLast b
+unfolding rightLast
+right-last b x S A o e ms ma = close-is b o (λ s. false) (λ s h. refl) x (λ s. ap (λ (y : ℕ). member y s) e ∙ member-all b o 2 2 s) S A ms ma
+
+pub left-first : (b : Book) → Sound b → allMask 0 1 (b .states) ≡ leftFirst b
+unfolding leftFirst
+left-first b o = ext _ _ (λ s. member-all b o 0 1 s ∙ sym (member-of b o (starts b 0) (λ k h. none-of b 0 1 k h) s))
+
+pub focus-first : (b : Book) (L R : ℕ) (S A : List ℕ) → Sound b → EachMask 0 2 (b .states) S → EachMask 1 1 (b .states) A → bitAnd (gather mostRules L S A) R ≡ focusFirst b L R
+unfolding focusFirst isAccept
+focus-first b L R S A o ms ma =
+    ext _ _ (λ s. member-and (gather mostRules L S A) R s
+    ∙ ap (λ (p : Bool). p && member R s) (member-gather b o 0 2 1 1 L S A ms ma s)
+    ∙ sym (member-of b o (λ k. (starts b 1 k && K′ k) && member R k) (λ k h. ap (λ (p : Bool). (p && K′ k) && member R k) (none-of b 1 1 k h)) s))
+  where
+    K′ : ℕ → Bool
+    K′ k = someState b (λ (p : ℕ). isAccept b (stateOf b k .rule) 0 p && member L p)
+
+pub focus-next : (b : Book) (F c R : ℕ) → Sound b → bitAnd (stepArcs 1 4 (b .arcs) F c) R ≡ focusNext b F c R
+unfolding focusNext
+focus-next b F c R o =
+    ext _ _ (λ s. member-and (stepArcs 1 4 (b .arcs) F c) R s
+    ∙ ap (λ (p : Bool). p && member R s) (member-into b F c s)
+    ∙ sym (member-of b o (λ k. intoBy b F c k && member R k) (λ k h. ap (λ (p : Bool). p && member R k) (into-past b F c k o h)) s))

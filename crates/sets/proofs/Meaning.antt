@@ -1,0 +1,315 @@
+-- The sets along a tape: how they are found, one position after the other, and what they hold, in document 01's words and as the tests
+-- that decide where a rule applies. For every sound book, which every accepted book is, and every tape. Assumes nothing.
+use Prim.Native.Nat.{ℕ, suc, _+_, _≤_, _<_}
+use mathlib.Core.List.{List, [], _∷_, _++_, append-assoc}
+use mathlib.Core.Bool.{Bool, _&&_}
+use mathlib.Core.Path.{_≡_, refl, subst, subst₂, sym, ap, _∙_}
+use mathlib.Core.Logic.{_↔_, _⊎_, inl, inr, ⊎-elim}
+use native.Mathlib.Omega.{arith}
+use lib.Dec.{T}
+use lib.ListN.{length, getD, take, drop, length-take, length-drop}
+use lib.Seq.{slice, slice-empty, take-suc, drop-cons, drop-length, drop-drop}
+use Rattle.book.specs.Reading.{Book}
+use Rattle.book.specs.Language.{leads, stateOf, starts, ends, accepts, someEnd, someFront, rules}
+use Rattle.book.specs.StateSets.{member}
+use Rattle.book.specs.Sound.{Sound}
+use Rattle.book.proofs.Bits.{member-none}
+use Rattle.book.proofs.Tests.{Cut, cut-eq, and-both, and-left, and-right, same-test}
+use Rattle.sets.specs.Sets.{leftFirst, leftNext, rightLast, rightPrev, meetsAccept, meetsStart, focusFirst, focusNext, after, before, pruned, leftAt, rightAt, focusAt}
+use Rattle.sets.proofs.Runs as Runs
+use Rattle.sets.proofs.Runs.{Start, Accept, Run, LeftHolds, RightHolds, Applies, LeftRun, RightRun, FocusRun, Later, run-rule, run-part}
+use Rattle.sets.proofs.Bridge.{machine, book-stays, starts-in, starts-out, ends-in, ends-out, leads-in, leads-out, left-iff, right-iff, applies-iff}
+use Rattle.sets.proofs.Slices.{take-cut, slice-cut, slice-join, slice-snoc, cut-front, cut-rest, cut-length, slice-take}
+use Rattle.sets.proofs.Steps.{In, first-law, next-law, last-law, prev-law, meets-accept, meets-start, focus-first-law, focus-next-law}
+
+-- ---- how the sets are found
+
+after-snoc : (next : ℕ → ℕ → ℕ) (w : List ℕ) (X a : ℕ) → after next X (w ++ (a ∷ [])) ≡ next (after next X w) a
+after-snoc next [] X a = refl
+after-snoc next (c ∷ w) X a = after-snoc next w (next X c) a
+
+pruned-snoc : (go : ℕ → ℕ → ℕ → ℕ) (right : List ℕ → ℕ) (u : List ℕ) (F a : ℕ) (v : List ℕ) → pruned go right F (u ++ (a ∷ [])) v ≡ go (pruned go right F u (a ∷ v)) a (right v)
+pruned-snoc go right [] F a v = refl
+pruned-snoc go right (c ∷ u) F a v =
+    ap (λ (x : List ℕ). pruned go right (go F c (right x)) (u ++ (a ∷ [])) v) (append-assoc u (a ∷ []) v) ∙ pruned-snoc go right u (go F c (right (u ++ a ∷ v))) a v
+
+module _ (b : Book) (t : List ℕ) where
+  pub left-first : leftAt b t 0 ≡ leftFirst b
+  unfolding leftAt
+  left-first = refl
+
+  pub left-next : (i : ℕ) → i < length t → leftAt b t (suc i) ≡ leftNext b (leftAt b t i) (getD t i 0)
+  unfolding leftAt
+  left-next i h = ap (after (leftNext b) (leftFirst b)) (take-suc t i 0 h) ∙ after-snoc (leftNext b) (take i t) (leftFirst b) (getD t i 0)
+
+  pub right-last : rightAt b t (length t) ≡ rightLast b
+  unfolding rightAt
+  right-last = ap (before (rightLast b) (rightPrev b)) (drop-length t)
+
+  pub right-prev : (i : ℕ) → i < length t → rightAt b t i ≡ rightPrev b (rightAt b t (suc i)) (getD t i 0)
+  unfolding rightAt
+  right-prev i h = ap (before (rightLast b) (rightPrev b)) (drop-cons t i 0 h)
+
+  pub focus-first : (i : ℕ) → focusAt b t i i ≡ focusFirst b (leftAt b t i) (rightAt b t i)
+  unfolding focusAt
+  focus-first i = rw slice-empty
+
+  pub focus-next : (i j : ℕ) → i ≤ j → j < length t → focusAt b t i (suc j) ≡ focusNext b (focusAt b t i j) (getD t j 0) (rightAt b t (suc j))
+  unfolding focusAt rightAt
+  focus-next i j k l =
+      ap (λ (u : List ℕ). pruned (focusNext b) right F u (drop (suc j) t)) (slice-snoc t i j k l)
+      ∙ pruned-snoc (focusNext b) right (slice i j t) F (getD t j 0) (drop (suc j) t)
+      ∙ ap (λ (v : List ℕ). focusNext b (pruned (focusNext b) right F (slice i j t) v) (getD t j 0) (right (drop (suc j) t))) (sym (drop-cons t j 0 l))
+    where
+      right : List ℕ → ℕ
+      right = before (rightLast b) (rightPrev b)
+
+      F : ℕ
+      F = focusFirst b (leftAt b t i) (rightAt b t i)
+
+-- ---- what the sets hold
+
+-- "the left-part states reached at i by runs from a start state begun at any position up to i"
+pub record LeftState (b : Book) (t : List ℕ) (i s : ℕ) : Type 0 where
+  pub left : stateOf b s .part ≡ 0
+  pub start : ℕ
+  pub is-start : T (starts b 0 start)
+  pub begun : ℕ
+  pub up-to : begun ≤ i
+  pub reached : T (leads (b .arcs) start (slice begun i t) s)
+
+-- "the right-part states from which some word beginning at i leads to acceptance"
+pub record RightState (b : Book) (t : List ℕ) (i s : ℕ) : Type 0 where
+  pub right : stateOf b s .part ≡ 2
+  pub k : ℕ
+  pub from : i ≤ k
+  pub inside : k ≤ length t
+  pub accept : ℕ
+  pub is-accept : T (ends b 2 accept)
+  pub reached : T (leads (b .arcs) s (slice i k t) accept)
+
+-- "the focus states from which a stretch i to k (k ≥ i) leads to acceptance with the right language of that rule holding at k"
+pub record FocusState (b : Book) (t : List ℕ) (i s : ℕ) : Type 0 where
+  pub focus : stateOf b s .part ≡ 1
+  pub k : ℕ
+  pub from : i ≤ k
+  pub inside : k ≤ length t
+  pub accept : ℕ
+  pub is-accept : T (ends b 1 accept)
+  pub reached : T (leads (b .arcs) s (slice i k t) accept)
+  pub right : T (rules b .right (stateOf b s .rule) (drop k t))
+
+-- the rule r applies to the stretch from i to j: its left language holds at i, the stretch is in its focus language, its right language holds at j
+abbrev pub applies : Book → List ℕ → ℕ → ℕ → ℕ → Bool
+applies b t i j r = rules b .focus r (slice i j t) && rules b .left r (take i t) && rules b .right r (drop j t)
+
+module _ (b : Book) (h : Sound b) (t : List ℕ) where
+  -- "The left set at i holds the left-part states reached at i by runs from a start state begun at any position up to i."
+  pub left-at : (i s : ℕ) → T (member (leftAt b t i) s) ↔ LeftState b t i s
+  unfolding leftAt
+  left-at i s = (λ x. to (law .0 x), λ z. law .1 (from z))
+    where
+      law : In s (after (leftNext b) (leftFirst b) (take i t)) ↔ LeftRun (machine b) (take i t) s
+      law = Runs.left-set (machine b) ℕ In (leftFirst b) (leftNext b) (first-law b) (next-law b h) (take i t) s
+
+      to : LeftRun (machine b) (take i t) s → LeftState b t i s
+      to z = record {
+        left = sym (run-part (book-stays h) (z .run)) ∙ z .start .in-part;
+        start = z .from;
+        is-start = starts-in b (z .start);
+        begun = length (z .front);
+        up-to = omega (arith, cut-length (z .cut), length-take i t);
+        reached = subst (λ (w : List ℕ). T (leads (b .arcs) (z .from) w s)) (cut-rest (z .cut)) (leads-in b (z .run));
+      }
+
+      from : LeftState b t i s → LeftRun (machine b) (take i t) s
+      from z = record {
+        front = take (z .begun) (take i t);
+        word = slice (z .begun) i t;
+        from = z .start;
+        rule = stateOf b (z .start) .rule;
+        cut = take-cut (z .begun) (take i t);
+        start = starts-out b 0 (z .start) (z .is-start);
+        run = leads-out b (slice (z .begun) i t) (z .start) s (z .reached);
+      }
+
+  -- "The right set at i holds the right-part states from which some word beginning at i leads to acceptance, and the focus states from which
+  -- a stretch i to k (k ≥ i) leads to acceptance with the right language of that rule holding at k."
+  pub right-at : (i s : ℕ) → i ≤ length t → T (member (rightAt b t i) s) ↔ (RightState b t i s ⊎ FocusState b t i s)
+  unfolding rightAt
+  right-at i s g = (
+    λ x. ⊎-elim (λ z. inl (right z)) (λ z. inr (focus z)) (law .0 x),
+    λ x. law .1 (⊎-elim (λ z. inl (from-right z)) (λ z. inr (from-focus z)) x),
+  )
+    where
+      law : In s (before (rightLast b) (rightPrev b) (drop i t)) ↔ (RightRun (machine b) (drop i t) s ⊎ FocusRun (machine b) (drop i t) s)
+      law = Runs.right-set (machine b) ℕ In (book-stays h) (rightLast b) (rightPrev b) (last-law b) (prev-law b h) (drop i t) s
+
+      -- where the word of a cut ends
+      at : {u v : List ℕ} → Cut u v (drop i t) → (k : ℕ) × (i ≤ k) × (k ≤ length t) × (u ≡ slice i k t) × (v ≡ drop k t)
+      at {u} {v} c =
+          let m = cut-length c in
+          let n = length-drop i t in
+          (i + length u, omega arith, omega arith, cut-front c ∙ sym (slice-take t i (length u)), cut-rest c ∙ drop-drop (length u) i t)
+
+      right : RightRun (machine b) (drop i t) s → RightState b t i s
+      right z = let y = at (z .cut) in record {
+        right = run-part (book-stays h) (z .run) ∙ z .accept .in-part;
+        k = y .0;
+        from = y .1;
+        inside = y .2;
+        accept = z .to;
+        is-accept = ends-in b (z .accept);
+        reached = subst (λ (w : List ℕ). T (leads (b .arcs) s w (z .to))) (y .3) (leads-in b (z .run));
+      }
+
+      focus : FocusRun (machine b) (drop i t) s → FocusState b t i s
+      focus z = let y = at (z .cut) in let e = run-rule (book-stays h) (z .run) ∙ z .accept .of in record {
+        focus = run-part (book-stays h) (z .run) ∙ z .accept .in-part;
+        k = y .0;
+        from = y .1;
+        inside = y .2;
+        accept = z .to;
+        is-accept = ends-in b (z .accept);
+        reached = subst (λ (w : List ℕ). T (leads (b .arcs) s w (z .to))) (y .3) (leads-in b (z .run));
+        right = right-iff b (stateOf b s .rule) (drop (y .0) t) .1 (subst₂ (λ (r : ℕ) (w : List ℕ). RightHolds (machine b) r w) (sym e) (y .4) (z .right));
+      }
+
+      from-right : RightState b t i s → RightRun (machine b) (drop i t) s
+      from-right z = record {
+        word = slice i (z .k) t;
+        rest = drop (z .k) t;
+        to = z .accept;
+        rule = stateOf b (z .accept) .rule;
+        cut = slice-cut t i (z .k) (z .from);
+        run = leads-out b (slice i (z .k) t) s (z .accept) (z .reached);
+        accept = ends-out b 2 (z .accept) (z .is-accept);
+      }
+
+      from-focus : FocusState b t i s → FocusRun (machine b) (drop i t) s
+      from-focus z = let run = leads-out b (slice i (z .k) t) s (z .accept) (z .reached) in record {
+        word = slice i (z .k) t;
+        rest = drop (z .k) t;
+        to = z .accept;
+        rule = stateOf b s .rule;
+        cut = slice-cut t i (z .k) (z .from);
+        run = run;
+        accept = subst (λ (r : ℕ). Accept (machine b) r 1 (z .accept)) (sym (run-rule (book-stays h) run)) (ends-out b 1 (z .accept) (z .is-accept));
+        right = right-iff b (stateOf b s .rule) (drop (z .k) t) .0 (z .right);
+      }
+
+  -- ---- the tests of the contexts
+
+  left-test : (r i : ℕ) → LeftHolds (machine b) r (take i t) ↔ ((s : ℕ) × Accept (machine b) r 0 s × T (member (leftAt b t i) s))
+  unfolding leftAt
+  left-test r i = Runs.left-test (machine b) ℕ In (leftFirst b) (leftNext b) (first-law b) (next-law b h) (book-stays h) r (take i t)
+
+  right-test : (r i : ℕ) → RightHolds (machine b) r (drop i t) ↔ ((s : ℕ) × Start (machine b) r 2 s × T (member (rightAt b t i) s))
+  unfolding rightAt
+  right-test r i = Runs.right-test (machine b) ℕ In (book-stays h) (rightLast b) (rightPrev b) (last-law b) (prev-law b h) r (drop i t)
+
+  -- the left language of r holds at i exactly if the left set at i meets r's left accept states
+  pub left-holds : (r i : ℕ) → rules b .left r (take i t) ≡ meetsAccept b r 0 (leftAt b t i)
+  left-holds r i = same-test (someEnd (accepts b r 0) (take i t)) (meetsAccept b r 0 (leftAt b t i)) (
+    λ x. meets-accept b r 0 (leftAt b t i) .1 (left-test r i .0 (left-iff b r (take i t) .0 x)),
+    λ x. left-iff b r (take i t) .1 (left-test r i .1 (meets-accept b r 0 (leftAt b t i) .0 x)),
+  )
+
+  -- the right language of r holds at i exactly if the right set at i meets r's right start states
+  pub right-holds : (r i : ℕ) → rules b .right r (drop i t) ≡ meetsStart b r 2 (rightAt b t i)
+  right-holds r i = same-test (someFront (accepts b r 2) (drop i t)) (meetsStart b r 2 (rightAt b t i)) (
+    λ x. meets-start b r 2 (rightAt b t i) .1 (right-test r i .0 (right-iff b r (drop i t) .0 x)),
+    λ x. right-iff b r (drop i t) .1 (right-test r i .1 (meets-start b r 2 (rightAt b t i) .0 x)),
+  )
+
+  -- ---- the pruned walk from i
+
+  module _ (i : ℕ) where
+    first-set : (s : ℕ) → T (member (focusFirst b (leftAt b t i) (rightAt b t i)) s) ↔ (((r : ℕ) × Start (machine b) r 1 s × LeftHolds (machine b) r (take i t)) × T (member (rightAt b t i) s))
+    first-set = focus-first-law b (take i t) (leftAt b t i) (rightAt b t i) (λ r. left-test r i)
+
+    accepting : (r j : ℕ) → i ≤ j → Applies (machine b) (take i t) (slice i j t) (drop j t) r ↔ (((s : ℕ) × Accept (machine b) r 1 s × T (member (focusAt b t i j) s)) × RightHolds (machine b) r (drop j t))
+    unfolding focusAt rightAt
+    accepting r j k = Runs.accepting (machine b) ℕ In (book-stays h) (rightLast b) (rightPrev b) (last-law b) (prev-law b h) (focusNext b) (focus-next-law b h)
+        (take i t) (focusFirst b (leftAt b t i) (rightAt b t i)) (drop i t) first-set r (slice-cut t i j k)
+
+    alive : (j : ℕ) → i ≤ j → ((s : ℕ) × T (member (focusAt b t i j) s)) ↔ Later (machine b) (take i t) (slice i j t) (drop j t)
+    unfolding focusAt rightAt
+    alive j k = Runs.alive (machine b) ℕ In (book-stays h) (rightLast b) (rightPrev b) (last-law b) (prev-law b h) (focusNext b) (focus-next-law b h)
+        (take i t) (focusFirst b (leftAt b t i) (rightAt b t i)) (drop i t) first-set (slice-cut t i j k)
+
+    -- the focus set from i at j holds the focus states that the stretch leads to from a start state of a rule whose left language holds at i,
+    -- as far as they are in the right set at j
+    pub focus-at : (j s : ℕ) → i ≤ j → T (member (focusAt b t i j) s) ↔
+        ((start : ℕ) × T (starts b 1 start) × T (rules b .left (stateOf b start .rule) (take i t)) × T (leads (b .arcs) start (slice i j t) s) × T (member (rightAt b t j) s))
+    unfolding focusAt rightAt
+    focus-at j s k = (
+      λ x. let z = law .0 x in let y = first-set (z .0) .0 (z .1) .0 in (
+        z .0,
+        starts-in b (y .1),
+        left-iff b (stateOf b (z .0) .rule) (take i t) .1 (subst (λ (r : ℕ). LeftHolds (machine b) r (take i t)) (sym (y .1 .of)) (y .2)),
+        leads-in b (z .2),
+        z .3,
+      ),
+      λ z. let run = leads-out b (slice i j t) (z .0) s (z .3) in
+          let here = Runs.back-run (machine b) ℕ In (book-stays h) (rightLast b) (rightPrev b) (last-law b) (prev-law b h) (slice-cut t i j k) run (z .4) in
+          law .1 (
+            z .0,
+            first-set (z .0) .1 ((stateOf b (z .0) .rule, starts-out b 1 (z .0) (z .1), left-iff b (stateOf b (z .0) .rule) (take i t) .0 (z .2)), here),
+            run,
+            z .4,
+          ),
+    )
+      where
+        law : In s (pruned (focusNext b) (before (rightLast b) (rightPrev b)) (focusFirst b (leftAt b t i) (rightAt b t i)) (slice i j t) (drop j t))
+            ↔ ((p : ℕ) × In p (focusFirst b (leftAt b t i) (rightAt b t i)) × Run (machine b) p (slice i j t) s × In s (before (rightLast b) (rightPrev b) (drop j t)))
+        law = Runs.pruned-set (machine b) ℕ In (book-stays h) (rightLast b) (rightPrev b) (last-law b) (prev-law b h) (focusNext b) (focus-next-law b h)
+            (slice i j t) (focusFirst b (leftAt b t i) (rightAt b t i)) (drop j t) s
+            (λ p x. subst (λ (w : List ℕ). In p (before (rightLast b) (rightPrev b) w)) (cut-eq (slice-cut t i j k)) (first-set p .0 x .1))
+
+    -- r applies to the stretch from i to j exactly if the focus set from i at j meets r's focus accept states and the right set at j its right start states
+    pub focus-test : (j r : ℕ) → i ≤ j → applies b t i j r ≡ (meetsAccept b r 1 (focusAt b t i j) && meetsStart b r 2 (rightAt b t j))
+    focus-test j r k = same-test (applies b t i j r) (A && B) (
+      λ x. let y = accepting r j k .0 (applies-iff b r (take i t) (slice i j t) (drop j t) .0 x) in
+          and-both A B (meets-accept b r 1 (focusAt b t i j) .1 (y .0)) (meets-start b r 2 (rightAt b t j) .1 (right-test r j .0 (y .1))),
+      λ x. applies-iff b r (take i t) (slice i j t) (drop j t) .1 (accepting r j k .1
+          (meets-accept b r 1 (focusAt b t i j) .0 (and-left A B x), right-test r j .1 (meets-start b r 2 (rightAt b t j) .0 (and-right A B x)))),
+    )
+      where
+        A : Bool
+        A = meetsAccept b r 1 (focusAt b t i j)
+
+        B : Bool
+        B = meetsStart b r 2 (rightAt b t j)
+
+    -- where the focus set from i at j is empty, no rule applies to a stretch from i that ends at j or later
+    pub focus-dead : (j k r : ℕ) → i ≤ j → j ≤ k → focusAt b t i j ≡ 0 → T (applies b t i k r) → ⊥
+    focus-dead j k r g l none x =
+        let y = alive j g .1 (record {
+          more = slice j k t;
+          rest = drop k t;
+          focus = slice i k t;
+          rule = r;
+          cut = slice-cut t j k l;
+          whole = slice-join t i j k g l;
+          applies = applies-iff b r (take i t) (slice i k t) (drop k t) .0 x;
+        }) in
+        subst T (ap (λ (X : ℕ). member X (y .0)) none ∙ member-none (y .0)) (y .1)
+
+    -- and where it is not, some rule does
+    pub focus-live : (j s : ℕ) → i ≤ j → j ≤ length t → T (member (focusAt b t i j) s) → (k r : ℕ) × (j ≤ k) × (k ≤ length t) × T (applies b t i k r)
+    focus-live j s g l x =
+        let y = alive j g .0 (s, x) in
+        let n = length (y .more) in
+        let k = j + n in
+        let e₀ : y .more ≡ slice j k t = cut-front (y .cut) ∙ sym (slice-take t j n) in
+        let e₁ : y .focus ≡ slice i k t = cut-eq (y .whole) ∙ ap (λ (z : List ℕ). slice i j t ++ z) e₀ ∙ sym (cut-eq (slice-join t i j k g (omega arith))) in
+        let e₂ : y .rest ≡ drop k t = cut-rest (y .cut) ∙ drop-drop n j t in
+        let m = cut-length (y .cut) in
+        let c = length-drop j t in (
+          k,
+          y .rule,
+          omega arith,
+          omega arith,
+          applies-iff b (y .rule) (take i t) (slice i k t) (drop k t) .1 (subst₂ (λ (f w : List ℕ). Applies (machine b) (take i t) f w (y .rule)) e₁ e₂ (y .applies)),
+        )

@@ -1,0 +1,101 @@
+-- A built workspace: what BUILD leaves with reply 0 are tables, and walking their rows gives the number of the set over a tape.
+use Prim.Native.Nat.{ℕ, _+_, _*_, _≤_, _<_}
+use mathlib.Core.Path.{_≡_, refl, sym, ap, _∙_, subst}
+use mathlib.Core.List.{List, _++_}
+use native.Mathlib.Omega.{arith}
+use lib.ListN.{length, getD, length-append, List·getD-append}
+use lib.Seq.{getD-append-add}
+use Rattle.book.specs.Format.{symbolCount}
+use Rattle.book.specs.Reading.{bookOf}
+use Rattle.sets.specs.Sets.{leftFirst, leftNext, rightLast, rightPrev, after, before}
+use Rattle.sets.specs.Numbering.{mostSets, pairs, pad}
+use Rattle.sets.specs.Workspace.{leftTable, rightTable, leftCount, rightCount, AfterBuild, stands, filled, buildDef}
+use Rattle.sets.specs.Counting.{Tape, leftOver, rightOver}
+use Rattle.sets.specs.Tables.{leftEntry, rightEntry, leftSet, rightSet, Tables}
+use Rattle.sets.specs.declared.Built.{Built}
+use Rattle.sets.proofs.Pad.{length-pad, getD-pad-all}
+use Rattle.sets.proofs.Counts.{law-width, Half, half, walk-front, walk-end}
+use Rattle.sets.proofs.WaysOut.{Way, refused, short, many-left, many-right, built, way}
+
+-- two parts of n elements, each with zeros after what it holds, and what stands past them
+module _ (n : ℕ) (P Q T : List ℕ) (hp : length P ≤ n) (hq : length Q ≤ n) where
+  part-one : (i : ℕ) → i < n → getD (pad n P ++ (pad n Q ++ T)) i 0 ≡ getD P i 0
+  part-one i h = List·getD-append (pad n P) _ 0 i (omega (arith, length-pad n P hp)) ∙ getD-pad-all n P i
+
+  part-two : (i j : ℕ) → i < n → j ≡ n + i → getD (pad n P ++ (pad n Q ++ T)) j 0 ≡ getD Q i 0
+  part-two i j h e =
+      let q : j ≡ length (pad n P) + i = omega (arith, length-pad n P hp) in
+      ap (λ (k : ℕ). getD (pad n P ++ (pad n Q ++ T)) k 0) q
+      ∙ getD-append-add (pad n P) (pad n Q ++ T) i 0
+      ∙ List·getD-append (pad n Q) T 0 i (omega (arith, length-pad n Q hq)) ∙ getD-pad-all n Q i
+
+  part-long : n + n ≤ length (pad n P ++ (pad n Q ++ T))
+  part-long = simp length-append (omega (arith, length-pad n P hp, length-pad n Q hq))
+
+module _ (book R S : List ℕ) (few : leftCount book ≤ mostSets) (few′ : rightCount book ≤ mostSets) where
+  left-width : length (leftTable (bookOf book) .rows) ≤ pairs
+  unfolding leftCount leftTable
+  left-width = omega (arith, law-width _ _ few)
+
+  right-width : length (rightTable (bookOf book) .rows) ≤ pairs
+  unfolding rightCount rightTable
+  right-width = omega (arith, law-width _ _ few′)
+
+  filled-tables : (x : AfterBuild) → x ≡ filled (leftTable (bookOf book)) (rightTable (bookOf book)) R S → Tables book (x .rows) (x .sets)
+  unfolding leftCount rightCount leftTable rightTable
+  filled-tables x e =
+      let b = bookOf book in
+      let er = ap (λ (y : AfterBuild). y .rows) e in
+      let es = ap (λ (y : AfterBuild). y .sets) e in
+      let l : Half (leftNext b) (leftFirst b) (leftCount book) (leftEntry (x .rows)) (leftSet (x .sets)) = half _ _ _ _ _ refl few
+      (λ k a h g. rw er (part-one pairs _ _ _ left-width right-width (symbolCount * k + a) (omega arith)))
+      (λ k h. rw es (part-one mostSets _ _ _ few few′ k (omega arith)))
+      in
+      let r : Half (rightPrev b) (rightLast b) (rightCount book) (rightEntry (x .rows)) (rightSet (x .sets)) = half _ _ _ _ _ refl few′
+      (λ k a h g. rw er (part-two pairs _ _ _ left-width right-width (symbolCount * k + a) (pairs + k * symbolCount + a) (omega arith) (omega arith)))
+      (λ k h. rw es (part-two mostSets _ _ _ few few′ k (mostSets + k) (omega arith) refl))
+      in
+      record {
+        rows-room = rw er (part-long pairs _ _ _ left-width right-width);
+        sets-room = rw es (part-long mostSets _ _ _ few few′);
+        left-few = few;
+        left-some = l .some;
+        left-first = l .first;
+        left-below = l .below;
+        left-next = l .step;
+        left-once = l .once;
+        right-few = few′;
+        right-some = r .some;
+        right-first = r .first;
+        right-below = r .below;
+        right-next = r .step;
+        right-once = r .once;
+      }
+
+-- the door between the builder and its readers
+pub tables : (book R S : List ℕ) → buildDef book R S .answer .reply ≡ 0 → Tables book (buildDef book R S .rows) (buildDef book R S .sets)
+tables book R S z = by (buildDef book R S) (way book R S) z
+  where
+    by : (x : AfterBuild) → Way book R S x → x .answer .reply ≡ 0 → Tables book (x .rows) (x .sets)
+    by x (refused h e) z = absurd (h (sym (ap (λ (y : AfterBuild). y .answer .reply) e) ∙ z))
+    by x (short h s e) z = absurd (let q = ap (λ (y : AfterBuild). y .answer .reply) e in omega arith)
+    by x (many-left o l e) z = absurd (let q = ap (λ (y : AfterBuild). y .answer .reply) e in omega arith)
+    by x (many-right o l r e) z = absurd (let q = ap (λ (y : AfterBuild). y .answer .reply) e in omega arith)
+    by x (built o l r e) z = filled-tables book R S l r x e
+
+-- the same from the contract of `build`
+pub built-tables : (book R S : List ℕ) (r : Built) (R′ S′ : List ℕ) → stands r R′ S′ ≡ buildDef book R S → r .reply ≡ 0 → Tables book R′ S′
+built-tables book R S r R′ S′ e z =
+    subst (λ (x : AfterBuild). Tables book (x .rows) (x .sets)) (sym e) (tables book R S (sym (ap (λ (x : AfterBuild). x .answer .reply) e) ∙ z))
+
+-- walking the rows along a tape, or from its end, gives the number of its set
+module _ (book rows sets : List ℕ) (t : Tables book rows sets) where
+  pub left-walk : (w : List ℕ) → Tape w → (after (leftEntry rows) 0 w < leftCount book) × (leftSet sets (after (leftEntry rows) 0 w) ≡ leftOver (bookOf book) w)
+  left-walk =
+      walk-front _ _ _ (leftEntry rows) (leftSet sets)
+      (record { some = t .left-some; first = t .left-first; below = t .left-below; step = t .left-next; once = t .left-once })
+
+  pub right-walk : (w : List ℕ) → Tape w → (before 0 (rightEntry rows) w < rightCount book) × (rightSet sets (before 0 (rightEntry rows) w) ≡ rightOver (bookOf book) w)
+  right-walk =
+      walk-end _ _ _ (rightEntry rows) (rightSet sets)
+      (record { some = t .right-some; first = t .right-first; below = t .right-below; step = t .right-next; once = t .right-once })

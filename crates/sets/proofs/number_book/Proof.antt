@@ -1,0 +1,60 @@
+-- What the outline of the book ensures is what both sides are lent.
+use borrow.Author.Needs.{needs}
+use Rattle.sets.proofs.number_book.Statement.{statement}
+use Rattle.sets.proofs.number_book.Tie as tie
+
+place-states-requires : tie.Need-place-states-requires
+place-states-requires c κs = search needs
+
+mask-states-requires : tie.Need-mask-states-requires
+mask-states-requires c κs = search needs
+
+mask-states-requires-2 : tie.Need-mask-states-requires-2
+mask-states-requires-2 c κs = search needs
+
+mask-states-requires-3 : tie.Need-mask-states-requires-3
+mask-states-requires-3 c κs = search needs
+
+mask-states-requires-4 : tie.Need-mask-states-requires-4
+mask-states-requires-4 c κs = search needs
+
+number-both-requires : tie.Need-number-both-requires
+number-both-requires c κs = (
+  c .before .before .before .before .before .before .before .before .before .before .before .before .before .before .before .before .pre .0,
+  (
+    record {
+      placed = c .before .before .before .before .before .before .before .before .before .before .before .before .place-states .ensures;
+      masks =
+          record {
+            left-starts = c .before .before .before .before .before .before .before .before .before .before .before .mask-states .ensures .whole;
+            right-accepts = c .before .before .before .before .before .before .before .before .before .before .mask-states2 .ensures .whole;
+            right-starts = c .before .before .before .before .before .before .before .before .before .mask-states3 .ensures .rules;
+            focus-accepts = c .before .before .before .before .before .before .before .before .mask-states4 .ensures .rules;
+          };
+    },
+    search needs,
+  ),
+)
+
+same-length : tie.Need-same-length
+same-length c = search needs
+
+same-length-2 : tie.Need-same-length-2
+same-length-2 c = search needs
+
+returns : tie.Need-returns
+returns c = search needs
+
+pub number-book-spec : {M : Type 1} → statement M
+number-book-spec =
+    tie.close
+    (tie.spec
+    place-states-requires
+    mask-states-requires
+    mask-states-requires-2
+    mask-states-requires-3
+    mask-states-requires-4
+    number-both-requires
+    same-length
+    same-length-2
+    returns)

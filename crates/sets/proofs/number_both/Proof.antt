@@ -1,0 +1,76 @@
+-- Three ways out: more left sets than the most, more right ones, or both sides numbered.
+use Rattle.sets.proofs.WaysOut.{way-left, way-right, way-built}
+use mathlib.Core.Path.{refl}
+use borrow.Author.Needs.{needs}
+use Rattle.sets.proofs.number_both.Statement.{statement}
+use Rattle.sets.proofs.number_both.Tie as tie
+
+number-part-requires : tie.Need-number-part-requires
+number-part-requires c κs =
+    (c .before .before .before .before .before .pre .0, (c .before .before .before .before .before .pre .1 .0, search needs))
+
+clear-requires : tie.Need-clear-requires
+clear-requires c κs = search needs
+
+refused-requires : tie.Need-refused-requires
+refused-requires c κs = search needs
+
+same-length : tie.Need-same-length
+same-length c = search needs
+
+same-length-2 : tie.Need-same-length-2
+same-length-2 c = search needs
+
+returns : tie.Need-returns
+returns c =
+    way-left _ _ _ _ _ _ _ (c .before .before .before .before .before .before .before .before .before .before .before .before .before .number-part .ensures) _ _ _ (c .before .before .before .before .before .before .before .before .if1 .taken) (c .before .before .before .before .before .clear .ensures .0) (c .before .before .before .before .before .clear .ensures .1) (c .refused .ensures)
+
+number-part-requires-2 : tie.Need-number-part-requires-2
+number-part-requires-2 c κs =
+    (c .before .before .before .before .before .before .before .before .before .before .before .before .before .pre .0, (c .before .before .before .before .before .before .before .before .before .before .before .before .before .pre .1 .0, search needs))
+
+clear-requires-2 : tie.Need-clear-requires-2
+clear-requires-2 c κs = search needs
+
+refused-requires-2 : tie.Need-refused-requires-2
+refused-requires-2 c κs = search needs
+
+same-length-3 : tie.Need-same-length-3
+same-length-3 c = search needs
+
+same-length-4 : tie.Need-same-length-4
+same-length-4 c = search needs
+
+returns-2 : tie.Need-returns-2
+returns-2 c =
+    way-right _ _ _ _ _ _ _ (c .before .before .before .before .before .before .before .before .before .before .before .before .before .before .before .before .before .before .before .before .before .number-part .ensures) (c .before .before .before .before .before .before .before .before .before .before .before .before .before .before .before .before .if1 .left) _ _ _ (c .before .before .before .before .before .before .before .before .before .before .before .before .before .number-part2 .ensures) _ _ _ (c .before .before .before .before .before .before .before .before .if2 .taken) (c .before .before .before .before .before .clear2 .ensures .0) (c .before .before .before .before .before .clear2 .ensures .1) (c .refused2 .ensures)
+
+same-length-5 : tie.Need-same-length-5
+same-length-5 c = search needs
+
+same-length-6 : tie.Need-same-length-6
+same-length-6 c = search needs
+
+returns-3 : tie.Need-returns-3
+returns-3 c =
+    way-built _ _ _ _ _ _ _ (c .before .before .before .before .before .before .before .before .before .before .before .before .before .number-part .ensures) (c .before .before .before .before .before .before .before .before .if1 .left) _ _ _ (c .before .before .before .before .before .number-part2 .ensures) _ (c .if2 .left) refl
+
+pub number-both-spec : {M : Type 1} → statement M
+number-both-spec =
+    tie.close
+    (tie.spec
+    number-part-requires
+    clear-requires
+    refused-requires
+    same-length
+    same-length-2
+    returns
+    number-part-requires-2
+    clear-requires-2
+    refused-requires-2
+    same-length-3
+    same-length-4
+    returns-2
+    same-length-5
+    same-length-6
+    returns-3)

@@ -1,0 +1,46 @@
+-- The house book, built by the definition: two left sets and fourteen right sets, its first rows, and what stands before and past the
+-- parts of a workspace that held 255 everywhere; and a set workspace that is too short by one.
+use Prim.Native.Nat.{ℕ, _+_, _-_}
+use mathlib.Core.List.{List, [], _∷_}
+use mathlib.Core.Path.{_≡_, refl}
+use lib.ListN.{take, drop, replicate}
+use Rattle.book.specs.Format.{recordSize, symbolFits, symbolsFit, ruleReply, stateReply, given, arcReply, endReply, kindReply, recordReply}
+use Rattle.book.specs.Reading.{withRecord, readFrom, readBook, checkDef, bookOf}
+use Rattle.book.specs.Language.{flagged, isStart}
+use Rattle.book.specs.StateSets.{member, encode}
+use Rattle.book.specs.House.{house}
+use Rattle.sets.specs.Sets.{setOf, intoBy, backBy, leftFirst, leftNext, closed, rightLast, rightPrev}
+use Rattle.sets.specs.Numbering.{mostSets, pairs, idx, enter, next, met, turn, run, all, pad}
+use Rattle.sets.specs.Workspace.{rowBytes, setWords, leftTable, rightTable, AfterBuild, refusal, numbered, buildDef}
+
+-- the answer; the first three left rows and two right rows; the first three left sets and fifteen right sets; what stands past the parts
+abbrev shown : AfterBuild → List (List ℕ)
+shown x =
+    (x .answer .reply ∷ x .answer .place ∷ x .answer .left ∷ x .answer .right ∷ []) ∷
+    take 48 (x .rows) ∷
+    take 32 (drop pairs (x .rows)) ∷
+    take 3 (x .sets) ∷
+    take 15 (drop mostSets (x .sets)) ∷
+    drop rowBytes (x .rows) ∷
+    drop setWords (x .sets) ∷
+    []
+
+pub house-built : shown (buildDef house (replicate (rowBytes + 2) 255) (replicate (setWords + 1) 255)) ≡
+    (0 ∷ 0 ∷ 2 ∷ 14 ∷ []) ∷
+    (0 ∷ 1 ∷ 0 ∷ 0 ∷ 0 ∷ 0 ∷ 0 ∷ 0 ∷ 0 ∷ 0 ∷ 0 ∷ 0 ∷ 0 ∷ 0 ∷ 0 ∷ 0 ∷
+    0 ∷ 1 ∷ 0 ∷ 0 ∷ 0 ∷ 0 ∷ 0 ∷ 0 ∷ 0 ∷ 0 ∷ 0 ∷ 0 ∷ 0 ∷ 0 ∷ 0 ∷ 0 ∷
+    0 ∷ 0 ∷ 0 ∷ 0 ∷ 0 ∷ 0 ∷ 0 ∷ 0 ∷ 0 ∷ 0 ∷ 0 ∷ 0 ∷ 0 ∷ 0 ∷ 0 ∷ 0 ∷ []) ∷
+    (1 ∷ 0 ∷ 0 ∷ 0 ∷ 2 ∷ 3 ∷ 0 ∷ 0 ∷ 0 ∷ 0 ∷ 0 ∷ 0 ∷ 0 ∷ 0 ∷ 0 ∷ 0 ∷
+    4 ∷ 0 ∷ 0 ∷ 0 ∷ 2 ∷ 3 ∷ 0 ∷ 0 ∷ 0 ∷ 0 ∷ 0 ∷ 0 ∷ 0 ∷ 0 ∷ 0 ∷ 0 ∷ []) ∷
+    (4161 ∷ 4163 ∷ 0 ∷ []) ∷
+    (264240 ∷ 395312 ∷ 264248 ∷ 265776 ∷ 493616 ∷ 264244 ∷ 264504 ∷ 280632 ∷ 264372 ∷ 264496 ∷ 272436 ∷ 280624 ∷ 264368 ∷ 272432 ∷ 0 ∷ []) ∷
+    (255 ∷ 255 ∷ []) ∷
+    (255 ∷ []) ∷
+    []
+unfolding house recordSize symbolFits symbolsFit ruleReply stateReply given arcReply endReply kindReply recordReply withRecord readFrom readBook checkDef bookOf flagged isStart member encode
+    setOf intoBy backBy leftFirst leftNext closed rightLast rightPrev idx enter next met turn run all pad leftTable rightTable numbered buildDef
+house-built = refl
+
+pub house-short : buildDef house (replicate rowBytes 255) (replicate (setWords - 1) 255) .answer ≡ refusal 11 0
+unfolding house recordSize symbolFits symbolsFit ruleReply stateReply given arcReply endReply kindReply recordReply withRecord readFrom readBook checkDef buildDef
+house-short = refl

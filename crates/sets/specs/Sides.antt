@@ -1,0 +1,52 @@
+-- What the builder's inner functions are lent and leave: either side by one function, `back` for the right one.
+use Prim.Native.Nat.{ℕ, _+_, _≤_, _<_}
+use mathlib.Core.Path.{_≡_}
+use mathlib.Core.Bool.{Bool, cond}
+use mathlib.Core.List.{List, []}
+use lib.ListN.{length, take, drop}
+use Rattle.book.specs.Reading.{Book}
+use Rattle.book.specs.Outline.{Placed, EachMask, allMask}
+use Rattle.sets.specs.Sets.{leftFirst, leftNext, rightLast, rightPrev}
+use Rattle.sets.specs.Numbering.{mostSets, pairs, Table, all, pad}
+
+unfoldable pub firstOf : Book → Bool → ℕ
+firstOf b back = cond back (rightLast b) (leftFirst b)
+
+unfoldable pub stepOf : Book → Bool → ℕ → ℕ → ℕ
+stepOf b back set a = cond back (rightPrev b set a) (leftNext b set a)
+
+unfoldable pub tableOf : Book → Bool → Table
+tableOf b back = all (stepOf b back) (firstOf b back)
+
+-- what is taken from an accepted book once, for all its steps: the set of all left starts and of all right accepts, and of each rule the
+-- right starts and the focus accepts
+pub record SideMasks (b : Book) (lefts rights : ℕ) (starts ends : List ℕ) : Type 0 where
+  pub left-starts : lefts ≡ allMask 0 1 (b .states)
+  pub right-accepts : rights ≡ allMask 2 2 (b .states)
+  pub right-starts : EachMask 2 1 (b .states) starts
+  pub focus-accepts : EachMask 1 2 (b .states) ends
+
+-- and where each state's record stands
+pub record Outlined (b : Book) (places : List ℕ) (lefts rights : ℕ) (starts ends : List ℕ) : Type 0 where
+  pub placed : Placed (b .states) places
+  pub masks : SideMasks b lefts rights starts ends
+
+-- the rows and the sets of a side, all 0
+pub record Clear (R S : List ℕ) : Type 0 where
+  pub rows : R ≡ pad pairs []
+  pub sets : S ≡ pad mostSets []
+
+-- n is the count and the table stands there; or n is one more than the most, there are more sets than that, and nothing is said of R and S
+pub record Numbered (t : Table) (n : ℕ) (R S : List ℕ) : Type 0 where
+  pub over : mostSets < n → mostSets < length (t .sets)
+  pub count : n ≤ mostSets → n ≡ length (t .sets)
+  pub rows : n ≤ mostSets → R ≡ pad pairs (t .rows)
+  pub sets : n ≤ mostSets → S ≡ pad mostSets (t .sets)
+
+-- the same from a on in the rows and from b on in the sets; what lies before and after is as it was
+pub record NumberedAt (t : Table) (n a b : ℕ) (R S R′ S′ : List ℕ) : Type 0 where
+  pub numbered : Numbered t n (take pairs (drop a R′)) (take mostSets (drop b S′))
+  pub rows-before : take a R′ ≡ take a R
+  pub rows-after : drop (a + pairs) R′ ≡ drop (a + pairs) R
+  pub sets-before : take b S′ ≡ take b S
+  pub sets-after : drop (b + mostSets) S′ ≡ drop (b + mostSets) S

@@ -1,0 +1,40 @@
+-- A built workspace, said evenly for both sides: what a reader of the rows and the sets needs to know of BUILD, and nothing of how.
+use Prim.Native.Nat.{ℕ, _+_, _*_, _≤_, _<_}
+use mathlib.Core.Path.{_≡_}
+use mathlib.Core.List.{List}
+use lib.ListN.{length, getD}
+use Rattle.book.specs.Format.{symbolCount}
+use Rattle.book.specs.Reading.{bookOf}
+use Rattle.sets.specs.Sets.{leftFirst, leftNext, rightLast, rightPrev}
+use Rattle.sets.specs.Numbering.{mostSets, pairs}
+use Rattle.sets.specs.Workspace.{rowBytes, setWords, leftCount, rightCount}
+
+-- "left rows, then right rows: 256 rows of 16 next numbers a side": entry a of row k
+abbrev pub leftEntry : List ℕ → ℕ → ℕ → ℕ
+leftEntry rows k a = getD rows (symbolCount * k + a) 0
+
+abbrev pub rightEntry : List ℕ → ℕ → ℕ → ℕ
+rightEntry rows k a = getD rows (pairs + k * symbolCount + a) 0
+
+-- "512 64-bit sets (left, then right)": the set of number k
+abbrev pub leftSet : List ℕ → ℕ → ℕ
+leftSet sets k = getD sets k 0
+
+abbrev pub rightSet : List ℕ → ℕ → ℕ
+rightSet sets k = getD sets (mostSets + k) 0
+
+pub record Tables (book rows sets : List ℕ) : Type 0 where
+  pub rows-room : rowBytes ≤ length rows
+  pub sets-room : setWords ≤ length sets
+  pub left-few : leftCount book ≤ mostSets
+  pub left-some : 0 < leftCount book
+  pub left-first : leftSet sets 0 ≡ leftFirst (bookOf book)
+  pub left-below : (k a : ℕ) → k < leftCount book → a < symbolCount → leftEntry rows k a < leftCount book
+  pub left-next : (k a : ℕ) → k < leftCount book → a < symbolCount → leftSet sets (leftEntry rows k a) ≡ leftNext (bookOf book) (leftSet sets k) a
+  pub left-once : (i j : ℕ) → i < leftCount book → j < leftCount book → leftSet sets i ≡ leftSet sets j → i ≡ j
+  pub right-few : rightCount book ≤ mostSets
+  pub right-some : 0 < rightCount book
+  pub right-first : rightSet sets 0 ≡ rightLast (bookOf book)
+  pub right-below : (k a : ℕ) → k < rightCount book → a < symbolCount → rightEntry rows k a < rightCount book
+  pub right-next : (k a : ℕ) → k < rightCount book → a < symbolCount → rightSet sets (rightEntry rows k a) ≡ rightPrev (bookOf book) (rightSet sets k) a
+  pub right-once : (i j : ℕ) → i < rightCount book → j < rightCount book → rightSet sets i ≡ rightSet sets j → i ≡ j
