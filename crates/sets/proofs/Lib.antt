@@ -9,6 +9,7 @@ pub mod Parts
 pub mod WaysOut
 pub mod Counts
 pub mod Tables
+pub mod Lengths
 pub mod Claims
 pub mod One
 pub mod Runs

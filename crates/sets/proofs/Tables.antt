@@ -8,13 +8,14 @@ use lib.Seq.{getD-append-add}
 use Rattle.book.specs.Format.{symbolCount}
 use Rattle.book.specs.Reading.{bookOf}
 use Rattle.sets.specs.Sets.{leftFirst, leftNext, rightLast, rightPrev, after, before}
-use Rattle.sets.specs.Numbering.{mostSets, pairs, pad}
+use Rattle.sets.specs.Numbering.{mostSets, pairs, idx, pad}
 use Rattle.sets.specs.Workspace.{leftTable, rightTable, leftCount, rightCount, AfterBuild, stands, filled, buildDef}
 use Rattle.sets.specs.Counting.{Tape, leftOver, rightOver}
 use Rattle.sets.specs.Tables.{leftEntry, rightEntry, leftSet, rightSet, Tables}
 use Rattle.sets.specs.declared.Built.{Built}
 use Rattle.sets.proofs.Pad.{length-pad, getD-pad-all}
-use Rattle.sets.proofs.Counts.{law-width, Half, half, walk-front, walk-end}
+use Rattle.sets.proofs.Idx.{idx-distinct}
+use Rattle.sets.proofs.Counts.{law-distinct, law-width, Half, half, walk-front, walk-end}
 use Rattle.sets.proofs.WaysOut.{Way, refused, short, many-left, many-right, built, way}
 
 -- two parts of n elements, each with zeros after what it holds, and what stands past them
@@ -33,11 +34,11 @@ module _ (n : ℕ) (P Q T : List ℕ) (hp : length P ≤ n) (hq : length Q ≤ n
   part-long = simp length-append (omega (arith, length-pad n P hp, length-pad n Q hq))
 
 module _ (book R S : List ℕ) (few : leftCount book ≤ mostSets) (few′ : rightCount book ≤ mostSets) where
-  left-width : length (leftTable (bookOf book) .rows) ≤ pairs
+  pub left-width : length (leftTable (bookOf book) .rows) ≤ pairs
   unfolding leftCount leftTable
   left-width = omega (arith, law-width _ _ few)
 
-  right-width : length (rightTable (bookOf book) .rows) ≤ pairs
+  pub right-width : length (rightTable (bookOf book) .rows) ≤ pairs
   unfolding rightCount rightTable
   right-width = omega (arith, law-width _ _ few′)
 
@@ -99,3 +100,22 @@ module _ (book rows sets : List ℕ) (t : Tables book rows sets) where
   right-walk =
       walk-end _ _ _ (rightEntry rows) (rightSet sets)
       (record { some = t .right-some; first = t .right-first; below = t .right-below; step = t .right-next; once = t .right-once })
+
+-- the numbers that a walk gives are those of the numbering: the right set of number k stands where the table has it
+module _ (book R S : List ℕ) (z : buildDef book R S .answer .reply ≡ 0) where
+  right-place : (x : AfterBuild) → Way book R S x → x .answer .reply ≡ 0 → (k : ℕ) → k < mostSets → rightSet (x .sets) k ≡ getD (rightTable (bookOf book) .sets) k 0
+  unfolding leftCount rightCount
+  right-place x (refused h e) z k l = absurd (h (sym (ap (λ (y : AfterBuild). y .answer .reply) e) ∙ z))
+  right-place x (short h s e) z k l = absurd (let q = ap (λ (y : AfterBuild). y .answer .reply) e in omega arith)
+  right-place x (many-left o g e) z k l = absurd (let q = ap (λ (y : AfterBuild). y .answer .reply) e in omega arith)
+  right-place x (many-right o g r e) z k l = absurd (let q = ap (λ (y : AfterBuild). y .answer .reply) e in omega arith)
+  right-place x (built o g r e) z k l = ap (λ (y : AfterBuild). rightSet (y .sets) k) e ∙ part-two mostSets _ _ _ g r k (mostSets + k) l refl
+
+  pub right-number : (w : List ℕ) → Tape w → before 0 (rightEntry (buildDef book R S .rows)) w ≡ idx (rightTable (bookOf book) .sets) (rightOver (bookOf book) w)
+  unfolding rightCount rightTable
+  right-number w t =
+      let b = tables book R S z in
+      let p = right-walk book _ _ b w t in
+      let k = before 0 (rightEntry (buildDef book R S .rows)) w in
+      sym (idx-distinct (rightTable (bookOf book) .sets) k (law-distinct _ _) (p .0))
+      ∙ ap (idx (rightTable (bookOf book) .sets)) (sym (right-place (buildDef book R S) (way book R S) z k (omega (arith, b .right-few, p .0))) ∙ p .1)

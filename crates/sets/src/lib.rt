@@ -100,11 +100,12 @@ fn number_both(
 }
 
 // The same, with what is taken from the book once for both sides: where each state's record stands, all left starts and all right
-// accepts, and the right starts and the focus accepts of each rule.
-fn number_book(book: &[u8], rows: &mut [u8], sets: &mut [u64]) -> Built
+// accepts, and the right starts and the focus accepts of each rule. Public, so that who has checked the book and the workspace himself, as
+// the rewriter has, need not have the book checked once more.
+pub fn number_book(book: &[u8], rows: &mut [u8], sets: &mut [u64]) -> Built
     requires { ⌜ checkDef (now book) .reply ≡ 0 ⌝ }
     requires { ⌜ (rowBytes ≤ length (now rows)) × (setWords ≤ length (now sets)) ⌝ }
-    ensures { λ r. ⌜ stands r (now (rows .exit)) (now (sets .exit)) ≡ numbered (tableOf (bookOf (now (book .entry))) false) (tableOf (bookOf (now (book .entry))) true) (now (rows .entry)) (now (sets .entry)) ⌝ }
+    ensures { λ r. ⌜ stands r (now (rows .exit)) (now (sets .exit)) ≡ buildDef (now (book .entry)) (now (rows .entry)) (now (sets .entry)) ⌝ }
 {
     let outline = book::outline::place_states(book);
     let lefts = book::outline::mask_states(book, 0, 1);

@@ -1,5 +1,5 @@
 -- Four ways out: CHECK's refusal, either piece too short, and both sides numbered.
-use Rattle.sets.proofs.WaysOut.{way-refused, way-rows, way-sets, way-on, by-name}
+use Rattle.sets.proofs.WaysOut.{way-refused, way-rows, way-sets}
 use Rattle.sets.specs.Workspace.{refusal}
 use Rattle.book.specs.declared.Checked.{Checked}
 use Rattle.book.specs.Reading.{checkDef}
@@ -49,8 +49,7 @@ same-length-2 : tie.Need-same-length-2
 same-length-2 c = search needs
 
 returns-4 : tie.Need-returns-4
-returns-4 c =
-    c .before .before .before .before .number-book .ensures ∙ by-name _ _ _ ∙ way-on _ _ _ (sym (reply-same _ _ (c .before .before .before .before .before .before .before .before .before .before .before .check .ensures)) ∙ c .before .before .before .before .before .before .before .before .before .if1 .left) (c .before .before .before .before .before .before .before .before .if2 .left) (c .before .before .before .before .before .before .before .if3 .left)
+returns-4 c = search needs
 
 pub build-spec : {M : Type 1} → statement M
 build-spec =

@@ -1,5 +1,7 @@
 -- What the outline of the book ensures is what both sides are lent.
 use borrow.Author.Needs.{needs}
+use mathlib.Core.Path.{_∙_}
+use Rattle.sets.proofs.WaysOut.{way-on, by-name}
 use Rattle.sets.proofs.number_book.Statement.{statement}
 use Rattle.sets.proofs.number_book.Tie as tie
 
@@ -43,7 +45,9 @@ same-length-2 : tie.Need-same-length-2
 same-length-2 c = search needs
 
 returns : tie.Need-returns
-returns c = search needs
+returns c =
+    let p = c .before .before .before .before .before .before .before .before .before .before .before .before .before .before .before .before .before .before .before .before .before .pre in
+    c .before .before .before .before .number-both .ensures ∙ by-name _ _ _ ∙ way-on _ _ _ (p .0) (p .1 .0) (p .1 .1)
 
 pub number-book-spec : {M : Type 1} → statement M
 number-book-spec =

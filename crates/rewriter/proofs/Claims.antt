@@ -1,0 +1,149 @@
+-- The theorems about rewriting and account, on one page. Read them with specs/Paper.antt (source document 001) and specs/Sentences.antt (document 01).
+-- No hypothesis on the book or the tape, but where an accepted book is named.
+use Prim.Native.Nat.{ℕ, _+_, _*_, _≤_, _<_}
+use mathlib.Core.List.{List, [], _∷_, map, List·Memᴰ}
+use mathlib.Core.Path.{_≡_}
+use mathlib.Core.Logic.{_↔_, _⊎_}
+use lib.ListN.{length}
+use Rattle.book.specs.Reading.{Book, checkDef}
+use Rattle.book.specs.Language.{Rules, rules, rulesIn}
+use Rattle.rewriter.specs.Candidates.{ruleOf, taken}
+use Rattle.rewriter.specs.Output.{Mark, rewriting, symbolsOf, originsOf}
+use Rattle.rewriter.specs.Account.{Line, account, lineLength, wordsIn}
+use Rattle.rewriter.specs.Show.{between, boundsOf}
+use Rattle.rewriter.specs.Paper.{Context, start, end, RC, BookRC, C, Earliest, Over, Overlap, CLM, CLML, RewriteLML}
+use Rattle.rewriter.specs.Sentences.{Candidate, Taken, Takes, Sorted, SameCandidate, lineNumber, candidateCount, Judged, takenLines, lineOf, Chain, replace, removed, writes, keptSymbols, writtenWords, Shuffled}
+use Rattle.rewriter.specs.Books.{bookP}
+use Rattle.rewriter.specs.Table.{rewritten, rows, tape8, table}
+use Rattle.rewriter.proofs.Greedy as Greedy
+use Rattle.rewriter.proofs.Walks as Walks
+use Rattle.rewriter.proofs.Stretches as Stretches
+use Rattle.rewriter.proofs.Rewritings as Rewritings
+use Rattle.rewriter.proofs.Sorting as Sorting
+use Rattle.rewriter.proofs.Accounts as Accounts
+use Rattle.rewriter.proofs.Replaced as Replaced
+use Rattle.rewriter.proofs.Lengths as Lengths
+use Rattle.rewriter.proofs.Kept as Kept
+use Rattle.rewriter.proofs.Counts as Counts
+use Rattle.rewriter.proofs.Batches as Batches
+use Rattle.rewriter.proofs.NoEmpty as NoEmpty
+use Rattle.rewriter.proofs.Showing as Showing
+
+-- 0. The proved table: cases 1 to 11 of document 01, from the books' bytes. (P's account of case 8 is `account8` beside it.)
+pub proved-table : map rewritten rows ≡ rows
+proved-table = table
+
+-- 1. Source document 001.
+
+-- 3.2: the rules of a book are a batch, its languages those of the book's parts
+pub a-batch : (b : Book) (t : List ℕ) (r : ℕ) (c : Context) → BookRC b t r c ↔ RC (rules b) t r c
+a-batch = Batches.book-rc
+
+-- the remark after 3.5
+pub overlap-is-over : (c d : Context) → Overlap c d ↔ (Over c d ⊎ Over d c)
+overlap-is-over = Greedy.overlap-over
+
+-- example 3.8: C_LML of case 8 has just the contexts from 1 to 6 and from 8 to 10
+pub example-8 : (i j : ℕ) → ((c : Context) × CLML (rulesIn bookP) tape8 c × (start c ≡ i) × (end c ≡ j)) ↔ List·Memᴰ (Stretches.stretch i j) (Stretches.stretch 1 6 ∷ Stretches.stretch 8 10 ∷ [])
+example-8 = Batches.example8
+
+module _ (b : Rules) (t : List ℕ) where
+  -- 3.9, the remark after it, 3.10, the end of 3.11's proof, 3.11: the paper's own propositions hold of 3.6 as reconstructed
+  pub prop-9 : (c d : Context) → CLM b t c → CLM b t d → Overlap c d → ⊥
+  prop-9 = Greedy.no-overlap (Walks.walk b t) b t (Walks.reads b t)
+
+  pub remark-9 : (c d : Context) → CLML b t c → CLML b t d → start c ≡ start d → length (c .v) ≡ length (d .v)
+  remark-9 = Greedy.one-length (Walks.walk b t) b t (Walks.reads b t)
+
+  pub prop-10 : (c d : Context) → C b t c → C b t d → start c ≡ start d → CLM b t c → CLM b t d
+  prop-10 = Greedy.same-start (Walks.walk b t) b t (Walks.reads b t)
+
+  pub remark-11 : (c : Context) → CLM b t c → (d : Context) × CLML b t d × (start d ≡ start c) × (length (c .v) ≤ length (d .v))
+  remark-11 = Greedy.longest-beside (Walks.walk b t) b t (Walks.reads b t)
+
+  pub prop-11 : (c : Context) → C b t c → (CLM b t c → ⊥) → (d : Context) × CLML b t d × Over c d
+  prop-11 = Greedy.over-one (Walks.walk b t) b t (Walks.reads b t)
+
+  -- 3.7: the stretches taken are the contexts of C_LML
+  pub taken-is-lml : (i j : ℕ) → Takes b t i j ↔ ((c : Context) × CLML b t c × (start c ≡ i) × (end c ≡ j))
+  taken-is-lml = Stretches.taken-paper b t
+
+  -- 3.4: the rule whose word is written is earliest(t, BR)(c)
+  pub rule-is-earliest : (c : Context) → CLML b t c → Earliest b t c (ruleOf b t (start c) (end c))
+  rule-is-earliest = Stretches.rule-paper b t
+
+  -- 3.12: the rewriting is Rewrite_LML(BR, t), and nothing else is
+  pub rewriting-is-lml : (out : List Mark) → RewriteLML b t out ↔ (out ≡ rewriting b t)
+  rewriting-is-lml = Rewritings.rewriting-paper b t
+
+  -- 2. Document 01, "Taken starts": the same stretches and rules.
+  pub sentence-is-taken : (i j r : ℕ) → Taken b t i j r ↔ (Takes b t i j × (r ≡ ruleOf b t i j))
+  sentence-is-taken = Stretches.sentence-taken b t
+
+  pub sentence-is-lml : (i j r : ℕ) → Taken b t i j r ↔ ((c : Context) × CLML b t c × Earliest b t c r × (start c ≡ i) × (end c ≡ j))
+  sentence-is-lml = Stretches.sentence-paper b t
+
+  -- 3. Document 01, the output: "replaces each taken stretch by its rule's word and keeps the rest".
+  pub output-replaces : rewriting b t ≡ replace b t 0 (map (lineOf b t) (taken b t))
+  output-replaces = Replaced.rewriting-replace b t
+
+  -- each symbol that no taken stretch covers is kept, in the tape's order and with its own position as origin; the words are all the rest
+  pub kept-in-order : Shuffled (keptSymbols b t) (writtenWords b t (taken b t)) (rewriting b t)
+  kept-in-order = Kept.rewriting-shuffled b t
+
+  -- "Each output symbol has an origin"
+  pub symbol-each : length (symbolsOf (rewriting b t)) ≡ length (rewriting b t)
+  symbol-each = Counts.symbols-length (rewriting b t)
+
+  pub origin-each : length (originsOf (rewriting b t)) ≡ length (rewriting b t)
+  origin-each = Counts.origins-length (rewriting b t)
+
+  -- 4. Document 01, the account: each candidate and nothing else
+  pub lines-are-candidates : (i j r : ℕ) → Candidate b t i j r ↔ ((l : Line) × List·Memᴰ l (account b t) × (l .start ≡ i) × (l .end ≡ j) × (l .rule ≡ r))
+  lines-are-candidates = Accounts.account-candidates b t
+
+  -- "Order: start, end, rule"; no candidate twice
+  pub lines-sorted : Sorted (account b t)
+  lines-sorted = Accounts.account-sorted b t
+
+  pub lines-once : (j k : ℕ) → j < length (account b t) → k < length (account b t) → SameCandidate (lineNumber (account b t) j) (lineNumber (account b t) k) → j ≡ k
+  lines-once = Sorting.sorted-once (account b t) (Accounts.account-sorted b t)
+
+  -- as many lines as candidates, so many words a line
+  pub line-count : length (account b t) ≡ candidateCount b t
+  line-count = Counts.account-length b t
+
+  pub word-count : length (wordsIn (account b t)) ≡ lineLength * length (account b t)
+  word-count = Counts.words-length (account b t)
+
+  -- exactly one verdict, and what each says; the deciding start is a taken start
+  pub lines-judged : (l : Line) → List·Memᴰ l (account b t) → Judged b t l
+  lines-judged = Accounts.account-judged b t
+
+  pub deciding-is-taken : (l : Line) → List·Memᴰ l (account b t) → (e : ℕ) × Takes b t (l .deciding) e
+  deciding-is-taken l m = Accounts.account-judged b t l m .deciding-taken
+
+  -- the lines with verdict 0 are the stretches taken, in order; as many as REWRITE reports; they make the output and its length
+  pub zero-lines : takenLines (account b t) ≡ map (lineOf b t) (taken b t)
+  zero-lines = Accounts.account-taken b t
+
+  pub zero-count : length (takenLines (account b t)) ≡ length (taken b t)
+  zero-count = Accounts.account-count b t
+
+  pub zero-chain : Chain t 0 (takenLines (account b t))
+  zero-chain = Lengths.taken-chain b t
+
+  pub output-from-lines : rewriting b t ≡ replace b t 0 (takenLines (account b t))
+  output-from-lines = Replaced.rewriting-account b t
+
+  pub output-length : length (rewriting b t) + removed (takenLines (account b t)) ≡ length t + writes b (takenLines (account b t))
+  output-length = Lengths.rewriting-length b t
+
+-- 5. Document 01, "0 ≤ i < j ≤ n": no candidate of an accepted book is empty. So in 2. the start "at or after the end" is never the last one again.
+pub accepted-past : (s : List ℕ) → checkDef s .reply ≡ 0 → (t : List ℕ) (i j r : ℕ) → Candidate (rulesIn s) t i j r → i < j
+accepted-past s h t = NoEmpty.past-start (rulesIn s) t (NoEmpty.no-empty s h)
+
+-- 6. SHOW of a line of an account is its candidate's stretch.
+pub shown-is-stretch : (s t : List ℕ) → checkDef s .reply ≡ 0 → (k : ℕ) → k < length (account (rulesIn s) t)
+    → between (lineNumber (account (rulesIn s) t) k .start) (lineNumber (account (rulesIn s) t) k .end) ≡ boundsOf (length t) (wordsIn (account (rulesIn s) t)) k
+shown-is-stretch = Showing.bounds-line

@@ -1,0 +1,136 @@
+-- The three things that one position can do: it is inside a stretch, is kept, or begins a stretch, whose word stands for it. What each adds to
+-- the counts, and what each does to the outputs. Assumes nothing.
+use Prim.Native.Nat.{ℕ, _+_, _≤_, _<_}
+use native.Mathlib.Nat.{add-zero}
+use native.Mathlib.Omega.{arith}
+use mathlib.Core.Path.{_≡_, refl, sym, _∙_, ap}
+use mathlib.Core.List.{List, [], _∷_}
+use lib.Bits.{bitAnd}
+use lib.ListN.{length, getD}
+use Rattle.book.specs.Reading.{wordAt, checkDef, bookOf}
+use Rattle.book.specs.Language.{rulesIn}
+use Rattle.sets.specs.Sets.{leftAt}
+use Rattle.sets.specs.Numbering.{mostSets}
+use Rattle.rewriter.specs.Candidates.{longest, ruleOf}
+use Rattle.rewriter.specs.Output.{wordMarks, ruleWord, symbolsOf, originsOf}
+use Rattle.rewriter.specs.Ready.{allStarts, Tests, WordAt, WordsAt, Rights}
+use Rattle.rewriter.specs.Passes.{Takes, marksAt, Shared, put, WordPut, KeptPut, Room, MarksPut}
+use Rattle.rewriter.proofs.Walks.{longest-low, some-far}
+use Rattle.rewriter.proofs.Stretches.{rule-first}
+use Rattle.rewriter.proofs.Lengths.{marks-length}
+use Rattle.rewriter.proofs.NoEmpty.{NoEmpty, no-empty}
+use Rattle.rewriter.proofs.Meets.{none-first}
+use Rattle.rewriter.proofs.Scans.{walk-start, walk-dead}
+use Rattle.rewriter.proofs.Front.{put-nil, put-one}
+use Rattle.rewriter.proofs.Marks.{word-length, symbols-marks}
+use Rattle.rewriter.proofs.Along.{marks-in, takes-in, end-in, end-new, marks-keep, marks-word, takes-none, takes-one}
+
+-- inside a stretch
+module _ (book t : List ℕ) (i end : ℕ) (h : i < end) where
+  pub shared-in : Shared (rulesIn book) t i end 0 end 0
+  shared-in = record {
+    ends = end-in (rulesIn book) t i end h;
+    lens = sym (ap length (marks-in (rulesIn book) t i end h));
+    many = sym (ap length (takes-in (rulesIn book) t i end h));
+    few = omega arith;
+    once = omega arith;
+  }
+
+  pub put-in : (at : ℕ) (out org : List ℕ) → MarksPut (rulesIn book) t i at end out org at end out org
+  put-in at out org =
+      let e = marks-in (rulesIn book) t i end h in
+      record {
+        ends = end-in (rulesIn book) t i end h;
+        next = rw (e, add-zero);
+        outs = rw e (put-nil out at);
+        orgs = rw e (put-nil org at);
+      }
+
+-- where the right set holds no focus start nothing is taken
+pub takes-nothing : (book tape sets scratch masks : List ℕ) (n i R : ℕ) → Tests (bookOf book) n masks → Rights book tape sets scratch → i ≤ length tape
+    → R ≡ getD sets (mostSets + getD scratch i 0) 0 → bitAnd R (getD masks allStarts 0) ≡ 0 → Takes (rulesIn book) tape i i 0
+takes-nothing book tape sets scratch masks n i R m seen h e z =
+    let L = leftAt (bookOf book) tape i in
+    walk-dead book tape sets scratch seen i i 0 i 0 (walk-start book tape sets scratch seen i L R 0 h refl e (none-first (bookOf book) n masks m L R z)) refl
+
+-- a free position
+module _ (book : List ℕ) (ok : checkDef book .reply ≡ 0) (t : List ℕ) (i end : ℕ) (new : end ≤ i) (stop rule : ℕ) (took : Takes (rulesIn book) t i stop rule) where
+  none : NoEmpty (rulesIn book)
+  none = no-empty book ok
+
+  -- nothing is taken
+  module _ (k : stop ≡ i) where
+    alone : longest (rulesIn book) t i ≡ i
+    alone = sym (took .far) ∙ k
+
+    keeps : marksAt (rulesIn book) t i end ≡ record { symbol = getD t i 0; origin = i } ∷ []
+    keeps = marks-keep (rulesIn book) t none i end new alone
+
+    pub shared-keep : Shared (rulesIn book) t i end 1 i 0
+    shared-keep = record {
+      ends = sym alone ∙ end-new (rulesIn book) t i end new;
+      lens = sym (ap length keeps);
+      many = sym (ap length (takes-none (rulesIn book) t none i end new alone));
+      few = omega arith;
+      once = omega arith;
+    }
+
+    pub keep-room : (at : ℕ) (out org : List ℕ) → Room (rulesIn book) t i at end out org → (at < length out) × (at < length org)
+    keep-room at out org r = (omega (arith, r .outs, ap length keeps), omega (arith, r .orgs, ap length keeps))
+
+    pub put-keep : (at : ℕ) (out org : List ℕ) → Room (rulesIn book) t i at end out org → (at′ end′ : ℕ) (out′ org′ : List ℕ) → KeptPut (getD t i 0) i at out org at′ end′ out′ org′
+        → MarksPut (rulesIn book) t i at end out org at′ end′ out′ org′
+    put-keep at out org r at′ end′ out′ org′ p = record {
+      ends = p .ends ∙ sym alone ∙ end-new (rulesIn book) t i end new;
+      next = p .next ∙ rw keeps;
+      outs = p .outs ∙ rw keeps (put-one out at (getD t i 0) (keep-room at out org r .0));
+      orgs = p .orgs ∙ rw keeps (put-one org at i (keep-room at out org r .1));
+    }
+
+  -- a stretch is taken
+  module _ (k : stop ≡ i → ⊥) (words : List ℕ) (stand : WordsAt book (bookOf book .words) words) where
+    past : i < longest (rulesIn book) t i
+    past =
+        let l = longest-low (rulesIn book) t i in
+        let q : longest (rulesIn book) t i ≡ i → ⊥ = λ z. k (took .far ∙ z) in
+        omega arith
+
+    far-rule : rule ≡ ruleOf (rulesIn book) t i (longest (rulesIn book) t i)
+    far-rule = took .who ∙ ap (ruleOf (rulesIn book) t i) (took .far)
+
+    pub known-rule : rule < length (bookOf book .words)
+    known-rule = let f = rule-first (rulesIn book) t i (longest (rulesIn book) t i) (some-far (rulesIn book) t i past) in omega (arith, far-rule, f .high)
+
+    pub stands : WordAt book (getD (bookOf book .words) rule []) (getD words rule 0)
+    stands = stand rule known-rule
+
+    marks-are : marksAt (rulesIn book) t i end ≡ wordMarks (wordAt book (getD words rule 0)) i stop
+    marks-are =
+        marks-word (rulesIn book) t none i end new past
+        ∙ ap (λ (x : ℕ). wordMarks (ruleWord (rulesIn book) x) i stop) (sym far-rule)
+        ∙ ap (λ (w : List ℕ). wordMarks w i stop) (stands .is)
+
+    marks-many : length (marksAt (rulesIn book) t i end) ≡ length (wordAt book (getD words rule 0))
+    marks-many = ap length marks-are ∙ marks-length (wordAt book (getD words rule 0)) i
+
+    pub shared-word : (n : ℕ) → n ≡ length (wordAt book (getD words rule 0)) → Shared (rulesIn book) t i end n stop 1
+    shared-word n e = record {
+      ends = took .far ∙ end-new (rulesIn book) t i end new;
+      lens = e ∙ sym marks-many;
+      many = sym (takes-one (rulesIn book) t none i end new past);
+      few = omega (arith, e, word-length book (getD words rule 0) (stands .room), stands .room .short);
+      once = omega arith;
+    }
+
+    pub word-room : (at : ℕ) (out org : List ℕ) → Room (rulesIn book) t i at end out org
+        → (at + length (wordAt book (getD words rule 0)) ≤ length out) × (at + length (wordAt book (getD words rule 0)) ≤ length org)
+    word-room at out org r = (omega (arith, r .outs, marks-many), omega (arith, r .orgs, marks-many))
+
+    pub put-replace : (at : ℕ) (out org : List ℕ) (at′ : ℕ) (out′ org′ : List ℕ) → WordPut (wordAt book (getD words rule 0)) i at out org at′ out′ org′
+        → MarksPut (rulesIn book) t i at end out org at′ stop out′ org′
+    put-replace at out org at′ out′ org′ p = record {
+      ends = took .far ∙ end-new (rulesIn book) t i end new;
+      next = p .next ∙ ap (λ (n : ℕ). at + n) (sym marks-many);
+      outs = p .outs ∙ ap (put out at) (sym (ap symbolsOf marks-are ∙ symbols-marks (wordAt book (getD words rule 0)) i));
+      orgs = p .orgs ∙ ap (put org at) (sym (ap originsOf marks-are));
+    }

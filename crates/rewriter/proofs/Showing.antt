@@ -1,0 +1,72 @@
+-- The bounds of the stretch that a line names, case by case; and SHOW of a line of an account is its candidate's stretch. Assumes nothing.
+use Prim.Native.Nat.{ℕ, zero, suc, _+_, _*_, _≤_, _<_}
+use mathlib.Core.List.{List, [], _∷_, _++_}
+use mathlib.Core.Path.{_≡_, refl, sym, ap, _∙_}
+use native.Mathlib.Omega.{arith}
+use borrow.Author.Tests.{le-ltb, lt-ltb, le-leb, lt-leb}
+use lib.ListN.{length, getD, List·getD-append}
+use lib.Seq.{getD-append-add}
+use Rattle.book.specs.Reading.{checkDef}
+use Rattle.book.specs.Language.{rulesIn}
+use Rattle.rewriter.specs.Account.{Line, account, lineWords, lineLength, line-length, wordsIn}
+use Rattle.rewriter.specs.Sentences.{lineNumber}
+use Rattle.rewriter.specs.Show.{wordOfLine, startIn, endIn, between, boundsOf}
+use Rattle.rewriter.proofs.Sorting.{number-in}
+use Rattle.rewriter.proofs.Accounts.{account-candidates}
+use Rattle.rewriter.proofs.Counts.{words-length}
+use Rattle.rewriter.proofs.NoEmpty.{no-empty, past-start}
+
+pub bounds-short : (n : ℕ) (l : List ℕ) (k : ℕ) → length l < lineLength * (k + 1) → between 0 0 ≡ boundsOf n l k
+unfolding boundsOf
+bounds-short n l k h = simp (lt-leb (lineLength * (k + 1)) (length l) h)
+
+module _ (n : ℕ) (l : List ℕ) (k s e : ℕ) (whole : lineLength * (k + 1) ≤ length l) (ps : s ≡ startIn l k) (pe : e ≡ endIn l k) where
+  pub bounds-empty : e ≤ s → between 0 0 ≡ boundsOf n l k
+  unfolding boundsOf
+  bounds-empty h = simp (le-leb (lineLength * (k + 1)) (length l) whole, le-ltb (startIn l k) (endIn l k) (omega arith))
+
+  pub bounds-past : s < e → n < e → between 0 0 ≡ boundsOf n l k
+  unfolding boundsOf
+  bounds-past h g =
+      simp (
+        le-leb (lineLength * (k + 1)) (length l) whole,
+        lt-ltb (startIn l k) (endIn l k) (omega arith),
+        lt-leb (endIn l k) n (omega arith),
+      )
+
+  pub bounds-stretch : s < e → e ≤ n → between s e ≡ boundsOf n l k
+  unfolding boundsOf
+  bounds-stretch h g =
+      simp (
+        le-leb (lineLength * (k + 1)) (length l) whole,
+        lt-ltb (startIn l k) (endIn l k) (omega arith),
+        le-leb (endIn l k) n (omega arith),
+        ps,
+        pe,
+      )
+
+-- word w of line k of an account is that of its line k
+pub word-of-line : (ls : List Line) (k w : ℕ) → k < length ls → w < lineLength → getD (lineWords (lineNumber ls k)) w 0 ≡ wordOfLine (wordsIn ls) k w
+unfolding wordsIn
+word-of-line [] k w h g = absurd (omega arith)
+word-of-line (l ∷ ls) zero w h g =
+    let n = line-length l in
+    let e : w ≡ zero * lineLength + w = omega arith in
+    sym (List·getD-append (lineWords l) (wordsIn ls) 0 w (omega arith)) ∙ ap (λ (x : ℕ). getD (lineWords l ++ wordsIn ls) x 0) e
+word-of-line (l ∷ ls) (suc k) w h g =
+    let n = line-length l in
+    let e : length (lineWords l) + (k * lineLength + w) ≡ suc k * lineLength + w = omega arith in
+    word-of-line ls k w (omega arith) g
+    ∙ sym (getD-append-add (lineWords l) (wordsIn ls) (k * lineLength + w) 0)
+    ∙ ap (λ (x : ℕ). getD (lineWords l ++ wordsIn ls) x 0) e
+
+-- in an accepted book's account
+pub bounds-line : (s t : List ℕ) → checkDef s .reply ≡ 0 → (k : ℕ) → k < length (account (rulesIn s) t)
+    → between (lineNumber (account (rulesIn s) t) k .start) (lineNumber (account (rulesIn s) t) k .end) ≡ boundsOf (length t) (wordsIn (account (rulesIn s) t)) k
+bounds-line s t z k h =
+    let b = rulesIn s in
+    let ls = account b t in
+    let l = lineNumber ls k in
+    let c = account-candidates b t (l .start) (l .end) (l .rule) .1 (l, number-in ls k h, refl, refl, refl) in
+    let w = words-length ls in
+    bounds-stretch (length t) (wordsIn ls) k (l .start) (l .end) (omega arith) (word-of-line ls k 1 h (omega arith)) (word-of-line ls k 2 h (omega arith)) (past-start b t (no-empty s z) (l .start) (l .end) (l .rule) c) (c .inside)

@@ -1,0 +1,93 @@
+-- One tape after a build, and its account: what is written is within the room, each buffer keeps its length, the answer looks at the buffers'
+-- lengths alone, and an output buffer is the written symbols and then what stood there. Assumes nothing.
+use Prim.Native.Nat.{ℕ, _*_, _≤_, zero-le}
+use mathlib.Core.Path.{_≡_, refl}
+use mathlib.Core.List.{List, _++_}
+use mathlib.Core.Bool.{Bool, true, false, cond, _&&_}
+use native.Mathlib.Omega.{arith}
+use lib.Dec.{leb}
+use lib.ListN.{length, take, drop}
+use borrow.Author.Tests.{leb-true}
+use Rattle.book.specs.Language.{Rules}
+use Rattle.book.proofs.Laws.{and-left, and-right}
+use Rattle.rewriter.specs.Output.{rewriting, symbolsOf, originsOf}
+use Rattle.rewriter.specs.Account.{account, lineLength, wordsIn}
+use Rattle.rewriter.specs.Replies.{AfterTape, tapeDef, AfterLines, linesDef}
+use Rattle.rewriter.proofs.Counts.{words-length, symbols-length, origins-length}
+use Rattle.rewriter.proofs.Onto.{onto-length, onto-front}
+
+-- what holds of both sides of a test, each with what the test says
+pub by-test {ℓ} : {A : Type ℓ} (P : A → Type 0) (test : Bool) (x y : A) → (test ≡ true → P x) → (test ≡ false → P y) → P (cond test x y)
+by-test P true x y f g = f refl
+by-test P false x y f g = g refl
+
+same-answer : (test : Bool) (x y x′ y′ : AfterTape) → x .answer ≡ x′ .answer → y .answer ≡ y′ .answer → cond test x y .answer ≡ cond test x′ y′ .answer
+same-answer true x y x′ y′ p q = p
+same-answer false x y x′ y′ p q = q
+
+module _ (b : Rules) (tape out origins : List ℕ) where
+  abbrev needed : ℕ
+  needed = length (rewriting b tape)
+
+  abbrev room : Bool
+  room = leb needed (length out) && leb needed (length origins)
+
+  in-out : room ≡ true → needed ≤ length out
+  in-out e = leb-true needed (length out) (and-left (leb needed (length out)) (leb needed (length origins)) e)
+
+  in-origins : room ≡ true → needed ≤ length origins
+  in-origins e = leb-true needed (length origins) (and-right (leb needed (length out)) (leb needed (length origins)) e)
+
+  -- the written length is within both rooms
+  pub tape-fits-out : tapeDef b tape out origins .answer .length ≤ length out
+  unfolding tapeDef
+  tape-fits-out = by-test (λ (x : AfterTape). x .answer .length ≤ length out) room _ _ in-out (λ e. zero-le)
+
+  pub tape-fits-origins : tapeDef b tape out origins .answer .length ≤ length origins
+  unfolding tapeDef
+  tape-fits-origins = by-test (λ (x : AfterTape). x .answer .length ≤ length origins) room _ _ in-origins (λ e. zero-le)
+
+  -- the buffers keep their lengths
+  pub tape-out : length (tapeDef b tape out origins .out) ≡ length out
+  unfolding tapeDef
+  tape-out =
+      by-test (λ (x : AfterTape). length (x .out) ≡ length out) room _ _
+      (λ e. onto-length (symbolsOf (rewriting b tape)) out (omega (arith, in-out e, symbols-length (rewriting b tape)))) (λ e. refl)
+
+  pub tape-origins : length (tapeDef b tape out origins .origins) ≡ length origins
+  unfolding tapeDef
+  tape-origins =
+      by-test (λ (x : AfterTape). length (x .origins) ≡ length origins) room _ _
+      (λ e. onto-length (originsOf (rewriting b tape)) origins (omega (arith, in-origins e, origins-length (rewriting b tape)))) (λ e. refl)
+
+  -- an output buffer is what was written and then what stood there
+  pub tape-front : tapeDef b tape out origins .out ≡ take (tapeDef b tape out origins .answer .length) (symbolsOf (rewriting b tape)) ++ drop (tapeDef b tape out origins .answer .length) out
+  unfolding tapeDef
+  tape-front =
+      by-test (λ (x : AfterTape). x .out ≡ take (x .answer .length) (symbolsOf (rewriting b tape)) ++ drop (x .answer .length) out) room _ _
+      (λ e. onto-front (symbolsOf (rewriting b tape)) out needed (symbols-length (rewriting b tape))) (λ e. refl)
+
+  pub tape-front-origins : tapeDef b tape out origins .origins ≡ take (tapeDef b tape out origins .answer .length) (originsOf (rewriting b tape)) ++ drop (tapeDef b tape out origins .answer .length) origins
+  unfolding tapeDef
+  tape-front-origins =
+      by-test (λ (x : AfterTape). x .origins ≡ take (x .answer .length) (originsOf (rewriting b tape)) ++ drop (x .answer .length) origins) room _ _
+      (λ e. onto-front (originsOf (rewriting b tape)) origins needed (origins-length (rewriting b tape))) (λ e. refl)
+
+  -- reply, place and counts look at the buffers' lengths alone
+  pub tape-answer : (out′ origins′ : List ℕ) → length out ≡ length out′ → length origins ≡ length origins′ → tapeDef b tape out origins .answer ≡ tapeDef b tape out′ origins′ .answer
+  unfolding tapeDef
+  tape-answer out′ origins′ p q = rw (p, q) (same-answer (leb needed (length out′) && leb needed (length origins′)) _ _ _ _ refl refl)
+
+module _ (b : Rules) (tape lines : List ℕ) where
+  abbrev words : ℕ
+  words = lineLength * length (account b tape)
+
+  pub lines-fit : lineLength * linesDef b tape lines .answer .candidates ≤ length lines
+  unfolding linesDef
+  lines-fit = by-test (λ (x : AfterLines). lineLength * x .answer .candidates ≤ length lines) (leb words (length lines)) _ _ (λ e. leb-true words (length lines) e) (λ e. omega arith)
+
+  pub lines-kept : length (linesDef b tape lines .lines) ≡ length lines
+  unfolding linesDef
+  lines-kept =
+      by-test (λ (x : AfterLines). length (x .lines) ≡ length lines) (leb words (length lines)) _ _
+      (λ e. onto-length (wordsIn (account b tape)) lines (omega (arith, leb-true words (length lines) e, words-length (account b tape)))) (λ e. refl)

@@ -1,0 +1,24 @@
+-- `rewriter::lines::deciding_at` meets its contract: the stretch taken last goes on, or what is taken here decides. Assumes nothing.
+use native.Mathlib.Omega.{arith}
+use borrow.Author.Needs.{needs}
+use Rattle.book.specs.Language.{rulesIn}
+use Rattle.rewriter.proofs.Listings.{deciding-in, deciding-new}
+use Rattle.rewriter.proofs.lines.deciding_at.Statement.{statement}
+use Rattle.rewriter.proofs.lines.deciding_at.Tie as tie
+
+returns : tie.Need-returns
+returns c =
+    let a = c .before .before .before .before .before .before .args in
+    deciding-in (rulesIn (a .book .now)) (a .tape .now) (a .i) (a .d) (omega arith)
+
+taken-at-requires : tie.Need-taken-at-requires
+taken-at-requires c κs = search needs
+
+returns-2 : tie.Need-returns-2
+returns-2 c =
+    let a = c .before .before .before .before .before .before .before .args in
+    let t = c .taken-at in
+    deciding-new (rulesIn (a .book .now)) (a .tape .now) (a .i) (a .d) (t .result .end) (t .result .rule) (omega arith) (t .ensures)
+
+pub deciding-at-spec : {M : Type 1} → statement M
+deciding-at-spec = tie.close (tie.spec returns taken-at-requires returns-2)

@@ -1,0 +1,105 @@
+// The forward passes over one tape.
+use crate::Rewritten;
+use crate::outline::MASKS;
+use crate::outline::outline_of;
+use crate::outline::place_words;
+use crate::output::forward;
+use crate::output::measure;
+ghost use mathlib.Core.Path.{_≡_};
+ghost use lib.ListN.{length};
+ghost use Rattle.book.specs.Reading.{bookOf};
+ghost use Rattle.book.specs.Language.{rulesIn};
+ghost use Rattle.rewriter.specs.Replies.{tapeLeaves, tapeDef};
+ghost use Rattle.rewriter.specs.Ready.{Lent, Ready};
+
+// Refused with 15 and nothing written where an output buffer is too short.
+fn no_room(length: usize) -> Rewritten
+    ensures { λ r. ⌜ r ≡ record { reply = 15; place = length; length = 0; taken = 0 } ⌝ }
+{
+    Rewritten {
+        reply: 15,
+        place: length,
+        length: 0,
+        taken: 0,
+    }
+}
+
+// Measures, then writes.
+fn both<'a>(
+    book: &[u8],
+    places: &'a [u16; book::STATES],
+    masks: &'a [u64; MASKS],
+    words: &[u16; book::RULES],
+    rules: usize,
+    tape: &[u8],
+    rows: &[u8],
+    sets: &[u64],
+    scratch: &[u8],
+    out: &mut [u8],
+    origins: &mut [u16],
+) -> Rewritten
+    requires { ⌜ Lent (now book) rules (now places) (now masks) (now words) ⌝ }
+    requires { ⌜ Ready (now book) (now tape) (now rows) (now sets) (now scratch) ⌝ }
+    ensures { λ r. ⌜ tapeLeaves r (now (out .exit)) (now (origins .exit)) ≡ tapeDef (rulesIn (now (book .entry))) (now (tape .entry)) (now (out .entry)) (now (origins .entry)) ⌝ }
+{
+    let size = measure(book, places, masks, words, rules, tape, rows, sets, scratch);
+    let length = size.length;
+    if out.len() < length {
+        return no_room(length);
+    }
+    if origins.len() < length {
+        return no_room(length);
+    }
+    forward(
+        book,
+        places,
+        masks,
+        words,
+        rules,
+        tape,
+        rows,
+        sets,
+        scratch,
+        out,
+        origins,
+    );
+    Rewritten {
+        reply: 0,
+        place: 0,
+        length,
+        taken: size.taken,
+    }
+}
+
+// One tape after a build and its backward pass. Public, and with a `requires`: who rewrites many tapes after one build calls it once a tape,
+// where REWRITE would check and build again for each.
+pub fn finish(
+    book: &[u8],
+    tape: &[u8],
+    rows: &[u8],
+    sets: &[u64],
+    scratch: &[u8],
+    rules: usize,
+    out: &mut [u8],
+    origins: &mut [u16],
+) -> Rewritten
+    requires { ⌜ Ready (now book) (now tape) (now rows) (now sets) (now scratch) ⌝ }
+    requires { ⌜ rules ≡ length (bookOf (now book) .words) ⌝ }
+    ensures { λ r. ⌜ tapeLeaves r (now (out .exit)) (now (origins .exit)) ≡ tapeDef (rulesIn (now (book .entry))) (now (tape .entry)) (now (out .entry)) (now (origins .entry)) ⌝ }
+{
+    let outline = outline_of(book);
+    let words = place_words(book);
+    both(
+        book,
+        &outline.places,
+        &outline.masks,
+        &words.places,
+        rules,
+        tape,
+        rows,
+        sets,
+        scratch,
+        out,
+        origins,
+    )
+}

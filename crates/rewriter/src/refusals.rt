@@ -1,0 +1,66 @@
+// The refusals before anything is built: of the book, of the tape, and of buffers that are too short.
+ghost use mathlib.Core.Path.{_≡_};
+ghost use Rattle.book.specs.Reading.{checkDef};
+ghost use Rattle.rewriter.specs.Replies.{refusal, firstBad, early};
+ghost use Rattle.rewriter.specs.Opening.{opened};
+use super::Refusal;
+
+// "tape 0 to 4,096 symbols"
+const TAPE: usize = 4096;
+
+// Whether a call is refused, and the number of the book's rules, which CHECK has counted.
+pub struct Opened {
+    pub refusal: Refusal,
+    pub rules: usize,
+}
+
+pub(crate) fn answer(reply: u8, place: usize, rules: usize) -> Opened
+    ensures { λ r. ⌜ r ≡ opened (refusal reply place) rules ⌝ }
+{
+    Opened {
+        refusal: Refusal { reply, place },
+        rules,
+    }
+}
+
+// The first place of the tape whose symbol is none, or the tape's length.
+fn first_bad(tape: &[u8]) -> usize
+    ensures { λ r. ⌜ r ≡ firstBad (now (tape .entry)) ⌝ }
+{
+    let mut i = 0;
+    while i < tape.len() {
+        if book::SYMBOLS <= tape[i] {
+            return i;
+        }
+        i += 1;
+    }
+    i
+}
+
+// The refusals of the tape and of the lengths of rows, sets and scratch, after the book's.
+pub(crate) fn early(book: &[u8], tape: &[u8], rows: usize, sets: usize, scratch: usize) -> Opened
+    ensures { λ r. ⌜ r ≡ opened (early (now (book .entry)) (now (tape .entry)) rows sets scratch) (checkDef (now (book .entry)) .rules) ⌝ }
+{
+    let checked = book::check(book);
+    let rules = checked.rules;
+    if checked.reply != 0 {
+        return answer(checked.reply, checked.place, rules);
+    }
+    if TAPE < tape.len() {
+        return answer(9, 0, rules);
+    }
+    let bad = first_bad(tape);
+    if bad < tape.len() {
+        return answer(10, bad, rules);
+    }
+    if rows < sets::ROW_BYTES {
+        return answer(11, 0, rules); // the bytes
+    }
+    if sets < sets::SET_WORDS {
+        return answer(11, 0, rules); // the sets
+    }
+    if scratch <= tape.len() {
+        return answer(12, 0, rules);
+    }
+    answer(0, 0, rules)
+}
