@@ -14,6 +14,9 @@ pub mod shown; // shown.rt: the stretch of the tape that a line of an account na
 
 pub use shown::show;
 
+// "tape 0 to 4,096 symbols"
+pub const TAPE: usize = 4096;
+
 // The words of a line of an account: rule, start, end, verdict, deciding start.
 pub const LINE: usize = 5;
 

@@ -4,9 +4,7 @@ ghost use Rattle.book.specs.Reading.{checkDef};
 ghost use Rattle.rewriter.specs.Replies.{refusal, firstBad, early};
 ghost use Rattle.rewriter.specs.Opening.{opened};
 use super::Refusal;
-
-// "tape 0 to 4,096 symbols"
-const TAPE: usize = 4096;
+use super::TAPE;
 
 // Whether a call is refused, and the number of the book's rules, which CHECK has counted.
 pub struct Opened {
@@ -14,6 +12,7 @@ pub struct Opened {
     pub rules: usize,
 }
 
+// A reply with its place, beside the rules; 0 is no refusal.
 pub(crate) fn answer(reply: u8, place: usize, rules: usize) -> Opened
     ensures { λ r. ⌜ r ≡ opened (refusal reply place) rules ⌝ }
 {

@@ -1,0 +1,124 @@
+// The C face: one function for each public operation, with that operation's contract. A slice passes as a pointer and its length in elements.
+ghost use mathlib.Core.Path.{_≡_};
+ghost use Rattle.book.specs.Reading.{checkDef};
+ghost use Rattle.sets.specs.Workspace.{stands, buildDef};
+ghost use Rattle.rewriter.specs.Replies.{rewriteLeaves, rewriteDef, accountLeaves, accountDef};
+ghost use Rattle.rewriter.specs.Show.{boundsOf};
+ghost use Rattle.deck.specs.Plain.{plainChecked, plainBuilt, plainRewritten, plainAccounted, plainBounds};
+
+#[repr(C)]
+pub struct CChecked {
+    pub reply: u8,
+    pub place: usize,
+    pub rules: usize,
+    pub states: usize,
+    pub arcs: usize,
+}
+
+#[repr(C)]
+pub struct CBuilt {
+    pub reply: u8,
+    pub place: usize,
+    pub left: usize,
+    pub right: usize,
+}
+
+#[repr(C)]
+pub struct CRewritten {
+    pub reply: u8,
+    pub place: usize,
+    pub length: usize,
+    pub taken: usize,
+}
+
+#[repr(C)]
+pub struct CAccounted {
+    pub reply: u8,
+    pub place: usize,
+    pub candidates: usize,
+}
+
+#[repr(C)]
+pub struct CStretch {
+    pub start: usize,
+    pub end: usize,
+}
+
+#[no_mangle]
+pub extern "C" fn qafrendi_check(book: &[u8]) -> CChecked
+    ensures { λ r. ⌜ plainChecked r ≡ checkDef (now (book .entry)) ⌝ }
+{
+    let r = book::check(book);
+    CChecked {
+        reply: r.reply,
+        place: r.place,
+        rules: r.rules,
+        states: r.states,
+        arcs: r.arcs,
+    }
+}
+
+#[no_mangle]
+pub extern "C" fn qafrendi_build(book: &[u8], rows: &mut [u8], sets: &mut [u64]) -> CBuilt
+    ensures { λ r. ⌜ stands (plainBuilt r) (now (rows .exit)) (now (sets .exit)) ≡ buildDef (now (book .entry)) (now (rows .entry)) (now (sets .entry)) ⌝ }
+{
+    let r = sets::build(book, rows, sets);
+    CBuilt {
+        reply: r.reply,
+        place: r.place,
+        left: r.left,
+        right: r.right,
+    }
+}
+
+#[no_mangle]
+pub extern "C" fn qafrendi_rewrite(
+    book: &[u8],
+    tape: &[u8],
+    rows: &mut [u8],
+    sets: &mut [u64],
+    scratch: &mut [u8],
+    out: &mut [u8],
+    origins: &mut [u16],
+) -> CRewritten
+    ensures { λ r. ⌜ rewriteLeaves (plainRewritten r) (now (rows .exit)) (now (sets .exit)) (now (scratch .exit)) (now (out .exit)) (now (origins .exit)) ≡ rewriteDef (now (book .entry)) (now (tape .entry)) (now (rows .entry)) (now (sets .entry)) (now (scratch .entry)) (now (out .entry)) (now (origins .entry)) ⌝ }
+{
+    let r = rewriter::rewrite(book, tape, rows, sets, scratch, out, origins);
+    CRewritten {
+        reply: r.reply,
+        place: r.place,
+        length: r.length,
+        taken: r.taken,
+    }
+}
+
+#[no_mangle]
+pub extern "C" fn qafrendi_account(
+    book: &[u8],
+    tape: &[u8],
+    rows: &mut [u8],
+    sets: &mut [u64],
+    scratch: &mut [u8],
+    lines: &mut [u16],
+) -> CAccounted
+    ensures { λ r. ⌜ accountLeaves (plainAccounted r) (now (rows .exit)) (now (sets .exit)) (now (scratch .exit)) (now (lines .exit)) ≡ accountDef (now (book .entry)) (now (tape .entry)) (now (rows .entry)) (now (sets .entry)) (now (scratch .entry)) (now (lines .entry)) ⌝ }
+{
+    let r = rewriter::account(book, tape, rows, sets, scratch, lines);
+    CAccounted {
+        reply: r.reply,
+        place: r.place,
+        candidates: r.candidates,
+    }
+}
+
+// A part of the tape cannot be handed to C as a reference, so C gets its bounds, by the function that SHOW cuts the tape with.
+#[no_mangle]
+pub extern "C" fn qafrendi_show(tape_length: usize, lines: &[u16], line: usize) -> CStretch
+    ensures { λ r. ⌜ plainBounds r ≡ boundsOf «tape_length» (now (lines .entry)) line ⌝ }
+{
+    let r = rewriter::shown::bounds_of(tape_length, lines, line);
+    CStretch {
+        start: r.start,
+        end: r.end,
+    }
+}
