@@ -12,6 +12,7 @@ mod lines; // lines.rt: the lines of the account
 pub mod listing; // listing.rt: the account of one tape
 pub mod shown; // shown.rt: the stretch of the tape that a line of an account names
 
+pub use shown::bounds_of;
 pub use shown::show;
 
 // "tape 0 to 4,096 symbols"

@@ -1,0 +1,56 @@
+-- The place stays within the text; the measure is what is left of the numbers. Assumes nothing.
+use Prim.Native.Nat.{_-_, _<_}
+use mathlib.Core.Path.{_≡_}
+use borrow.Author.Needs.{needs}
+use lib.ListN.{length}
+use Rattle.probe.proofs.answer.put_longs.Statement.{statement}
+use Rattle.probe.proofs.answer.put_longs.Tie as tie
+
+abbrev Inv-loop : tie.InvT-loop
+Inv-loop text₀ used s at₀ i₀ text at i = (at < length text₀) × (length text ≡ length text₀)
+
+abbrev μ-loop : tie.MeasureT-loop
+μ-loop text₀ used s at₀ i₀ text at i = length s - i
+
+loop-holds : tie.Need-loop-holds Inv-loop μ-loop
+loop-holds c = search needs
+
+mul-put-long : tie.Need-mul-put-long Inv-loop μ-loop
+mul-put-long c = search needs
+
+shared-slice-read-put-long : tie.Need-shared-slice-read-put-long Inv-loop μ-loop
+shared-slice-read-put-long c = search needs
+
+put-long-requires : tie.Need-put-long-requires Inv-loop μ-loop
+put-long-requires c κs = search needs
+
+add-i : tie.Need-add-i Inv-loop μ-loop
+add-i c = search needs
+
+loop-less : tie.Need-loop-less Inv-loop μ-loop
+loop-less c = search needs
+
+loop-again : tie.Need-loop-again Inv-loop μ-loop
+loop-again c = search needs
+
+same-length : tie.Need-same-length Inv-loop μ-loop
+same-length c = search needs
+
+returns : tie.Need-returns Inv-loop μ-loop
+returns c = search needs
+
+pub put-longs-spec : {M : Type 1} → statement M
+put-longs-spec =
+    tie.close
+    (tie.spec
+    Inv-loop
+    μ-loop
+    loop-holds
+    mul-put-long
+    shared-slice-read-put-long
+    put-long-requires
+    add-i
+    loop-less
+    loop-again
+    same-length
+    returns)

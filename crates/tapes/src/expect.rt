@@ -1,0 +1,177 @@
+// What document 01 says must stand in each buffer after a call, worked out by hand for each book, as a value for each element.
+ghost use Prim.Native.Nat.{_<_};
+
+// What stands in every element before a call.
+pub(crate) const OLD: u8 = 165;
+
+// What stands in the workspace afterwards: nothing new, all 0, or the tables of a book.
+pub(crate) const UNTOUCHED: u8 = 0;
+
+pub(crate) const CLEARED: u8 = 1;
+
+pub(crate) const PAIR: u8 = 2;
+
+pub(crate) const LONG: u8 = 3;
+
+pub(crate) const LEFT: u8 = 4;
+
+pub(crate) const RIGHT: u8 = 5;
+
+const ROW: usize = 16;
+
+const ROWS: usize = 4096;
+
+const SETS: usize = 256;
+
+// "1 to 12 change no buffer. 13 and 14 leave the workspace parts all 0 and nothing else changed. 15 leaves workspace and scratch as
+// acceptance does"
+pub(crate) fn tables_after(reply: u8, tables: u8) -> u8 {
+    match reply {
+        0 | 15 => tables,
+        13..=14 => CLEARED,
+        _ => UNTOUCHED,
+    }
+}
+
+// A chain's sets are the last eight symbols, a bit for each that is 1, in the order of their numbers: set k leads to 2 k, with
+// symbol 1 to 2 k + 1, and the ninth symbol back is forgotten.
+fn chain_row(i: usize) -> u8 {
+    let next = 2 * (i / ROW % SETS);
+    if i % ROW == 1 {
+        return ((next + 1) % SETS) as u8;
+    }
+    (next % SETS) as u8
+}
+
+pub(crate) fn row(tables: u8, i: usize) -> u8 {
+    if ROWS + ROWS <= i {
+        return OLD;
+    }
+    match tables {
+        UNTOUCHED => OLD,
+        PAIR => pair_row(i),
+        LONG => long_row(i),
+        LEFT => { if i < ROWS { chain_row(i) } else { 0 } }
+        RIGHT => { if i < ROWS { 0 } else { chain_row(i - ROWS) } }
+        _ => 0,
+    }
+}
+
+// PAIR and LONG have one left set. Right set 0 holds the accepting focus state and the right state, set 1 the starting one too.
+// Symbol 1 in front gives set 1 in PAIR, any symbol in LONG.
+fn pair_row(i: usize) -> u8 {
+    if i == ROWS + 1 {
+        return 1;
+    }
+    if i == ROWS + ROW + 1 { 1 } else { 0 }
+}
+
+fn long_row(i: usize) -> u8 {
+    if i < ROWS {
+        return 0;
+    }
+    if i < ROWS + 2 * ROW { 1 } else { 0 }
+}
+
+fn small_set(i: usize) -> u64 {
+    if i == 0 {
+        return 1;
+    }
+    if i == SETS {
+        return 12;
+    }
+    if i == SETS + 1 { 14 } else { 0 }
+}
+
+// State 0 always, state j where the symbol j places back is 1; on the right one set of state 9.
+fn left_set(i: usize) -> u64 {
+    if i < SETS {
+        return 2 * (i as u64) + 1;
+    }
+    if i == SETS { 512 } else { 0 }
+}
+
+// State 8 always, state 7 - j where the symbol j places on is 1; on the left one set of state 9.
+fn right_set(i: usize) -> u64 {
+    if i == 0 {
+        return 512;
+    }
+    if i < SETS {
+        0
+    } else {
+        256 + mirrored(i - SETS)
+    }
+}
+
+// The eight lowest bits, turned round.
+fn mirrored(number: usize) -> u64
+    ensures { λ r. ⌜ r < 256 ⌝ }
+{
+    let mut from = number;
+    let mut to: u64 = 0;
+    let mut left: usize = 8;
+    while 0 < left {
+        to = to % 128 * 2 + (from % 2) as u64;
+        from /= 2;
+        left -= 1;
+    }
+    to
+}
+
+pub(crate) fn set(tables: u8, i: usize) -> u64 {
+    if SETS + SETS <= i {
+        return OLD as u64;
+    }
+    match tables {
+        UNTOUCHED => OLD as u64,
+        PAIR => small_set(i),
+        LONG => small_set(i),
+        LEFT => left_set(i),
+        RIGHT => right_set(i),
+        _ => 0,
+    }
+}
+
+// The tapes are 0 1 0 1 ..
+pub(crate) fn symbol(i: usize) -> u8 {
+    (i % 2) as u8
+}
+
+// "Scratch byte i, for i from 0 to n, is the number of the right set at i."
+pub(crate) fn scratch(tables: u8, n: usize, i: usize) -> u8 {
+    if n < i {
+        return OLD;
+    }
+    match tables {
+        PAIR => { if i == n { 0 } else { symbol(i) } }
+        LONG => { if i == n { 0 } else { 1 } }
+        _ => OLD,
+    }
+}
+
+// PAIR's output is 0 7 8 0 7 8 .., of which 7 and 8 stand for the 1 at an odd position.
+pub(crate) fn output(i: usize) -> u8 {
+    match i % 3 {
+        0 => 0,
+        1 => 7,
+        _ => 8,
+    }
+}
+
+pub(crate) fn origin(i: usize) -> usize {
+    if i % 3 == 0 {
+        return i / 3 * 2;
+    }
+    i / 3 * 2 + 1
+}
+
+// PAIR's account: each 1, at the odd positions, is a candidate of rule 0, and taken.
+pub(crate) fn word(i: usize) -> usize {
+    let start = i / 5 * 2 + 1;
+    match i % 5 {
+        1 => start,
+        2 => start + 1,
+        4 => start,
+        _ => 0,
+    }
+}

@@ -1,0 +1,133 @@
+/* Qafrendi for C: context rule books over the tapes of swimming touch pads.
+ *
+ * Link target/staticlib/libdeck.a (`rt staticlib deck`; x86-64 Linux). The five functions are proved: for any bytes they end, answer
+ * what the scope document says, read and write nothing outside the buffers that they are lent, and keep nothing between calls. No
+ * heap, no locks, no globals: calls on different buffers may run at once.
+ *
+ * A buffer is a pointer and then its length in elements. What the caller owes, as for any reference in Rust: a pointer is not null,
+ * also where the length is 0, is aligned for its element, and has that many elements; a buffer that is written overlaps no other
+ * buffer of the call, and nothing else reads or writes it meanwhile. Nothing is owed of the data: no book and no tape needs a look
+ * before it is handed over.
+ *
+ * Every answer has a reply and a place.
+ *
+ *   reply  given when                                                           place
+ *    0     accepted                                                             0
+ *    1     the book stops before a kind byte or inside a body                   that record's offset
+ *    2     unknown kind                                                         offset
+ *    3     17th rule, 65th state or 513th arc                                   offset
+ *    4     state, arc or end before any rule                                    offset
+ *    5     a field outside its range, a symbol above 15, lowest above highest   offset
+ *    6     an arc names a state not yet given in the latest rule, or two parts  offset
+ *    7     a focus state has flags 3                                            offset
+ *    8     a byte follows the end record                                        its offset
+ *    9     tape longer than 4,096                                               0
+ *   10     a tape symbol above 15                                               first such position
+ *   11     workspace too short, either piece                                    0
+ *   12     scratch shorter than tape_length + 1                                 0
+ *   13     more than 256 left sets                                              0
+ *   14     more than 256 right sets                                             0
+ *   15     no room for the output or the account                                symbols or words needed
+ *
+ * Tested in this order: records from the front, in one record a missing kind 1, then 2, a cut body 1, then 4, 3, 5, 6, 7; after the
+ * book 9, 10, 11, 12, 13, 14, 15. Counts are 0 on every refusal. 1 to 12 change no buffer. 13 and 14 leave the workspace all 0 and
+ * nothing else changed. 15 leaves workspace and scratch as acceptance does, and the output, the origins and the account unchanged.
+ * What stood in workspace and scratch before never matters.
+ */
+#ifndef QAFRENDI_H
+#define QAFRENDI_H
+
+#include <stddef.h>
+#include <stdint.h>
+
+#ifdef __cplusplus
+extern "C" {
+#endif
+
+/* Enough for every call: the two pieces of the workspace, the scratch, and the output of the longest tape. */
+enum {
+    QAFRENDI_LONGEST_TAPE = 4096,
+    QAFRENDI_ROWS = 8192,
+    QAFRENDI_SETS = 512,
+    QAFRENDI_SCRATCH = QAFRENDI_LONGEST_TAPE + 1,
+    QAFRENDI_LONGEST_OUT = 8 * QAFRENDI_LONGEST_TAPE,
+    QAFRENDI_LINE_WORDS = 5
+};
+
+typedef struct {
+    uint8_t reply;
+    size_t place, rules, states, arcs;
+} qafrendi_checked;
+
+typedef struct {
+    uint8_t reply;
+    size_t place, left, right;
+} qafrendi_built;
+
+typedef struct {
+    uint8_t reply;
+    size_t place, length, taken;
+} qafrendi_rewritten;
+
+typedef struct {
+    uint8_t reply;
+    size_t place, candidates;
+} qafrendi_accounted;
+
+typedef struct {
+    size_t start, end;
+} qafrendi_stretch;
+
+/* CHECK: whether the bytes are a book, and how many rules, states and arcs it has. Replies 0 to 8.
+ * Needs nothing, writes nothing. */
+qafrendi_checked qafrendi_check(const uint8_t *book, size_t book_length);
+
+/* BUILD: the two automata of a book, and how many sets each has. Replies 0 to 8, 11, 13, 14.
+ * Needs rows of 8,192 and sets of 512 elements or more.
+ * Writes those front parts: 256 rows of 16 next numbers a side and 256 sets a side, left and then right, 0 past a side's count.
+ * Never touches the book, nor the elements past those parts. */
+qafrendi_built qafrendi_build(
+    const uint8_t *book, size_t book_length,
+    uint8_t *rows, size_t rows_length,
+    uint64_t *sets, size_t sets_length);
+
+/* REWRITE: the tape with each taken stretch replaced by its rule's word; the output's length and the number of stretches taken.
+ * All replies.
+ * Needs the workspace as BUILD does (it builds it from the book, whatever stands there), scratch of tape_length + 1 elements or
+ * more, and room for the output: tape_length symbols where no word is longer than a focus, never more than 8 a symbol.
+ * Writes the workspace; scratch 0 to tape_length, the number of the right set at each position; and, accepted, the first `length`
+ * elements of out (symbols) and of origins (a kept symbol its own position, each symbol of a word the start of its stretch).
+ * Never touches the book, the tape, nor the elements past those. */
+qafrendi_rewritten qafrendi_rewrite(
+    const uint8_t *book, size_t book_length,
+    const uint8_t *tape, size_t tape_length,
+    uint8_t *rows, size_t rows_length,
+    uint64_t *sets, size_t sets_length,
+    uint8_t *scratch, size_t scratch_length,
+    uint8_t *out, size_t out_length,
+    uint16_t *origins, size_t origins_length);
+
+/* ACCOUNT: every stretch that any rule could have replaced, and what became of it; the number of candidates. All replies.
+ * Needs workspace and scratch as REWRITE does, and five words a candidate.
+ * Writes workspace and scratch as REWRITE does, and, accepted, the first 5 * candidates words of lines: rule, start, end, verdict,
+ * deciding start, in the order of start, end, rule. Verdicts: 0 taken; 1 shorter than the taken one at the same start; 2 same
+ * stretch, lower rule taken; 3 start strictly inside a taken stretch. The deciding start is that of the taken stretch.
+ * Never touches the book, the tape, nor the elements past those. */
+qafrendi_accounted qafrendi_account(
+    const uint8_t *book, size_t book_length,
+    const uint8_t *tape, size_t tape_length,
+    uint8_t *rows, size_t rows_length,
+    uint64_t *sets, size_t sets_length,
+    uint8_t *scratch, size_t scratch_length,
+    uint16_t *lines, size_t lines_length);
+
+/* SHOW: the stretch of a tape that a line of an account names, from start up to and not including end; lines count from 0. If the
+ * line is not wholly inside the account, or its start is not below its end, or its end is past the tape, start and end are 0.
+ * Always start <= end <= tape_length. Needs nothing, writes nothing. */
+qafrendi_stretch qafrendi_show(size_t tape_length, const uint16_t *lines, size_t lines_length, size_t line);
+
+#ifdef __cplusplus
+}
+#endif
+
+#endif

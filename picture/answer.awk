@@ -1,0 +1,75 @@
+# Reads the program's answer for one tape: W, O and a C line a candidate; or X; or W, O and X. An answer that cannot be
+# laid out over this tape is refused, and no page is written.
+
+BEGIN {
+  tape = ENVIRON["TAPE"] ""
+  tape_length = length(tape)
+  origins = candidates = 0
+}
+
+function fail(message) {
+  print "picture: " message | "cat 1>&2"
+  failed = 1
+  exit 1
+}
+
+function fail_line(message) { fail("line " NR " of the answer: " message) }
+
+NR == 1 && /^W [0-9]+ [0-9]+ [0-9a-z]+$/ || NR == 1 && /^W 0 [0-9]+ -$/ {
+  given_output = 1
+  output = $4 == "-" ? "" : $4 ""
+  output_length = $2 + 0
+  stretches_taken = $3 + 0
+  next
+}
+
+/^W / && NR > 1 { fail_line("a second tape begins") }
+
+NR == 2 && given_output && $0 == "O -" { next }
+
+NR == 2 && given_output && /^O [0-9 ]+$/ {
+  for (i = 2; i <= NF; i++) {
+    origin[i - 2] = $i + 0
+    word_from[$i + 0] = word_from[$i + 0] substr(output, i - 1, 1)
+  }
+  origins = NF - 1
+  next
+}
+
+NR > 2 && given_output && !refused && /^C [0-9]+ [0-9]+ [0-9]+ [0-3] [0-9]+$/ {
+  printed[candidates] = $0
+  rule[candidates] = $2 + 0
+  start[candidates] = $3 + 0
+  end[candidates] = $4 + 0
+  verdict[candidates] = $5 + 0
+  deciding[candidates] = $6 + 0
+  if ($3 + 0 >= $4 + 0 || $4 + 0 > tape_length) fail_line("the stretch is not one of this tape")
+  if ($5 == 0) taken_at[$3 + 0] = candidates
+  candidates++
+  next
+}
+
+(NR == 1 || NR == 3) && !refused && /^X [0-9]+ [0-9]+$/ {
+  refused = 1
+  number = $2 + 0
+  place = $3 + 0
+  next
+}
+
+{ fail_line("it is not what the program prints here") }
+
+# the answer as a whole, once it has been read
+function check_answer(    i) {
+  if (NR == 0) fail("the answer is empty")
+  if (given_output && NR == 1) fail("the line O is missing")
+  if (output_length != length(output) || output_length != origins) fail("W and O do not agree")
+  for (i = 0; i < origins; i++) if (origin[i] > tape_length) fail("an origin is outside this tape")
+  for (i = 0; i < candidates; i++) if (!(deciding[i] in taken_at)) fail("no line is taken at start " deciding[i])
+}
+
+function symbol_at(position) { return substr(tape, position + 1, 1) }
+
+function stretch(line) { return substr(tape, start[line] + 1, end[line] - start[line]) }
+
+# the output symbols that have the start of a taken line as their origin
+function replacement(line) { return word_from[start[line]] }

@@ -1,0 +1,100 @@
+# The words of the page: names of symbols and rules, the sentence of a candidate, the reasons of the replies. All of them
+# are document 01's; a number that it may change stands in BEGIN, once.
+
+BEGIN {
+  DIGITS = "0123456789abcdef"
+  PRINTABLE = "!\"#$%&'()*+,-./:;<=>?@ABCDEFGHIJKLMNOPQRSTUVWXYZ[\\]^_`abcdefghijklmnopqrstuvwxyz{|}~" DIGITS
+  UNSEEN[" "] = "space"; UNSEEN["\t"] = "tab"; UNSEEN["\r"] = "CR"
+  LONGEST_LIST = 12 # so many groups of symbols are listed in a sentence before it is cut
+  if (names == "house") {
+    SYMBOL["0"] = "quiet"; SYMBOL["1"] = "ripple"; SYMBOL["2"] = "press"; SYMBOL["3"] = "hold"; SYMBOL["4"] = "release"
+    SYMBOL["5"] = "push"; SYMBOL["8"] = "turn"; SYMBOL["9"] = "finish"; SYMBOL["a"] = "noise"
+    RULE[0] = "noise"; RULE[1] = "turn"; RULE[2] = "finish"
+  }
+}
+
+function escaped(c) {
+  if (c == "&") return "&amp;"
+  if (c == "<") return "&lt;"
+  if (c == ">") return "&gt;"
+  if (c == "\"") return "&quot;"
+  return index(PRINTABLE, c) ? c : "&#xFFFD;"
+}
+
+function escaped_word(word,    i, out) {
+  for (i = 1; i <= length(word); i++) out = out escaped(substr(word, i, 1))
+  return out
+}
+
+function is_symbol(c) { return index(DIGITS, c) > 0 }
+
+# a symbol in a sentence: by its name, or by its digit if it has none
+function symbol_word(c) { return c in SYMBOL ? SYMBOL[c] : escaped(c) }
+
+function rule_word(r) { return r in RULE ? "rule " r " " RULE[r] : "rule " r }
+
+function count_word(n, one, many) {
+  if (n == 0) return "no " one
+  return n == 1 ? "1 " one : n " " (many == "" ? one "s" : many)
+}
+
+# the stretch from first up to and not including after, named by the positions that belong to it
+function positions_word(first, after) {
+  if (after - first == 1) return "position " first
+  return "positions " first (after - first == 2 ? " and " : " to ") (after - 1)
+}
+
+# the symbols of a word of digits; three or more of a kind in a row are counted
+function symbols_word(word,    i, run, groups, out) {
+  if (word == "") return "nothing"
+  if (names != "house") out = length(word) == 1 ? "symbol " : "symbols "
+  for (i = 1; i <= length(word); i += run) {
+    if (groups == LONGEST_LIST) return out " and " (length(word) - i + 1) " more"
+    for (run = 1; substr(word, i + run, 1) == substr(word, i, 1); run++);
+    if (run == 2) run = 1
+    out = out (groups++ ? " " : "") symbol_word(substr(word, i, 1)) (run > 1 ? " (" run " times)" : "")
+  }
+  return out
+}
+
+# document 01, "The account": one sentence a line. by is the taken line at the deciding start.
+function verdict_words(line, by) {
+  if (verdict[line] == 0) return "taken, replaced by " symbols_word(replacement(line))
+  if (verdict[line] == 1) return "shorter than " positions_word(start[by], end[by]) ", taken at the same start"
+  if (verdict[line] == 2) return "same stretch, " rule_word(rule[by]) " comes first"
+  return "starts inside " positions_word(start[by], end[by]) ", taken by " rule_word(rule[by])
+}
+
+function sentence(line) {
+  return positions_word(start[line], end[line]) ", " symbols_word(stretch(line)) ", " rule_word(rule[line]) ": " \
+    verdict_words(line, taken_at[deciding[line]])
+}
+
+# document 01, "Reply numbers"
+function reason() {
+  if (number == 1) return "the book stops before the kind byte of a record or inside its body"
+  if (number == 2) return "the book has a record of an unknown kind"
+  if (number == 3) return "the book has a 17th rule, a 65th state or a 513th arc"
+  if (number == 4) return "the book has a state, an arc or its end before any rule"
+  if (number == 5) return "a field of the book is outside its table, a symbol is above 15, or lowest is above highest"
+  if (number == 6) return "an arc of the book names a state that the latest rule has not yet given, or joins two parts"
+  if (number == 7) return "a focus state of the book is both start and accept"
+  if (number == 8) return "a byte follows the end record of the book"
+  if (number == 9) return "the tape is longer than 4,096 symbols"
+  if (number == 10) return "the tape holds a character that is no symbol"
+  if (number == 11) return "the workspace is too short"
+  if (number == 12) return "the scratch is shorter than the tape and one more"
+  if (number == 13) return "the book needs more than 256 left sets"
+  if (number == 14) return "the book needs more than 256 right sets"
+  if (number == 15 && given_output) return "the account has no room for all candidates"
+  if (number == 15) return "an output buffer or the account has no room"
+  return "a reply that this page has no words for"
+}
+
+# what the place means; empty where document 01 gives 0
+function place_words() {
+  if (number >= 1 && number <= 8) return "at byte " place " of the book"
+  if (number == 10) return "the first one is at position " place
+  if (number == 15) return place (given_output ? " words are needed" : " symbols or words are needed")
+  return ""
+}

@@ -1,0 +1,234 @@
+//! The book reader: document 01, "The book" and replies 1 to 8.
+
+use crate::reading::{Reading, Wrong};
+use crate::record::{self, ACCEPT, ARC, BOTH, END, FOCUS, LONGEST_WORD, RIGHT, RULE, START, STATE};
+
+/// "symbols 0 to 15"
+pub const SYMBOLS: usize = 16;
+/// "rules 1 to 16; states at most 64; arcs at most 512"
+pub const MOST_RULES: usize = 16;
+pub const MOST_STATES: usize = 64;
+pub const MOST_ARCS: usize = 512;
+
+/// A book that was accepted (or what stood of it when it was refused).
+#[derive(Default, Clone)]
+pub struct Book {
+    /// Each rule's replacement word; rules "are numbered from 0 as they appear".
+    pub words: Vec<Vec<u8>>,
+    /// All states; "numbered from 0 as they appear" over the whole book.
+    pub states: Vec<State>,
+    pub arcs: Vec<Arc>,
+}
+
+#[derive(Clone, Copy)]
+pub struct State {
+    /// "A state belongs to the latest rule."
+    pub rule: usize,
+    pub part: u8,
+    pub start: bool,
+    pub accept: bool,
+}
+
+#[derive(Clone, Copy)]
+pub struct Arc {
+    pub from: usize,
+    pub lowest: u8,
+    pub highest: u8,
+    pub to: usize,
+}
+
+impl Arc {
+    /// "An arc is open to each symbol from lowest to highest"
+    pub fn open(&self, symbol: u8, reading: Reading) -> bool {
+        let highest_counts = !reading.is(Wrong::HighestOpen) || symbol < self.highest;
+        self.lowest <= symbol && symbol <= self.highest && highest_counts
+    }
+}
+
+/// A reply above 0 with its place.
+#[derive(Clone, Copy, PartialEq, Eq, Debug)]
+pub struct Refusal {
+    pub reply: u8,
+    pub place: usize,
+}
+
+/// Reads a whole book: "Records are tested from the front."
+pub fn read(bytes: &[u8], reading: Reading) -> Result<Book, Refusal> {
+    read_with_rest(bytes, reading).map_err(|(refusal, _)| refusal)
+}
+
+/// As `read`, but a refusal also tells what stood before the refused record.
+pub fn read_with_rest(bytes: &[u8], reading: Reading) -> Result<Book, (Refusal, Book)> {
+    let mut book = Book::default();
+    let mut offset = 0;
+    loop {
+        let record = match Record::at(bytes, offset, reading) {
+            Ok(record) => record,
+            Err(refusal) => return Err((refusal, book)),
+        };
+        if let Some(reply) = first_fault(&book, &record, reading) {
+            let place = match reply {
+                1 => reading.value(offset, Wrong::CutPlaceAtEnd, bytes.len()),
+                _ => offset,
+            };
+            return Err((Refusal { reply, place }, book));
+        }
+        offset += 1 + record.length;
+        book.add(&record);
+        if record.kind == END {
+            return after_end(bytes, offset, reading).map_or(Ok(book.clone()), |refusal| Err((refusal, book)));
+        }
+    }
+}
+
+/// "8: a byte follows the end record; its offset"
+fn after_end(bytes: &[u8], offset: usize, reading: Reading) -> Option<Refusal> {
+    let follows = offset < bytes.len() && !reading.is(Wrong::AfterEndIgnored);
+    let place = reading.value(offset, Wrong::AfterEndPlace, offset - 1);
+    follows.then_some(Refusal { reply: 8, place })
+}
+
+/// One record: a known kind, the length its body should have, and the body if it is all there.
+struct Record<'a> {
+    kind: u8,
+    length: usize,
+    body: Option<&'a [u8]>,
+}
+
+impl Record<'_> {
+    /// "In one record: missing kind 1, then 2" and only then the rest.
+    fn at(bytes: &[u8], offset: usize, reading: Reading) -> Result<Record<'_>, Refusal> {
+        let Some(kind) = bytes.get(offset).copied() else {
+            let place = reading.value(offset, Wrong::MissingKindPlace, offset.saturating_sub(1));
+            return Err(Refusal { reply: 1, place });
+        };
+        match record::body_length(kind) {
+            None => Err(Refusal { reply: 2, place: offset }),
+            Some(length) => Ok(Record { kind, length, body: bytes.get(offset + 1..offset + 1 + length) }),
+        }
+    }
+}
+
+/// "then 2, cut body 1, then 4, 3, 5, 6, 7"
+fn order(reading: Reading) -> [u8; 6] {
+    let orders = [
+        (Wrong::NoRuleBeforeCut, [4, 1, 3, 5, 6, 7]),
+        (Wrong::FullBeforeCut, [3, 1, 4, 5, 6, 7]),
+        (Wrong::FieldsBeforeNoRule, [1, 5, 4, 3, 6, 7]),
+        (Wrong::NamesBeforeNoRule, [1, 6, 4, 3, 5, 7]),
+        (Wrong::FieldsBeforeFull, [1, 4, 5, 3, 6, 7]),
+        (Wrong::NamesBeforeFull, [1, 4, 6, 3, 5, 7]),
+        (Wrong::NamesBeforeFields, [1, 4, 3, 6, 5, 7]),
+        (Wrong::FlagsBeforeFull, [1, 4, 7, 3, 5, 6]),
+    ];
+    let wrongly = orders.iter().find(|(wrong, _)| reading.is(*wrong));
+    wrongly.map_or([1, 4, 3, 5, 6, 7], |(_, order)| *order)
+}
+
+fn first_fault(book: &Book, record: &Record, reading: Reading) -> Option<u8> {
+    order(reading).into_iter().find(|reply| has_fault(book, record, *reply, reading))
+}
+
+fn has_fault(book: &Book, record: &Record, reply: u8, reading: Reading) -> bool {
+    let Some(body) = record.body else {
+        return match reply {
+            1 => true,
+            3 => book.is_full(record.kind, reading),
+            4 => book.lacks_rule(record.kind, reading),
+            _ => false,
+        };
+    };
+    match reply {
+        3 => book.is_full(record.kind, reading),
+        4 => book.lacks_rule(record.kind, reading),
+        5 => has_bad_field(record.kind, body, reading),
+        6 => record.kind == ARC && !book.may_join(body[0] as usize, body[3] as usize, reading),
+        7 => record.kind == STATE && body[1] == BOTH && flags_three_refused(body[0], reading),
+        _ => false,
+    }
+}
+
+/// "a field is outside the table above, a symbol above 15, or lowest above highest"
+fn has_bad_field(kind: u8, body: &[u8], reading: Reading) -> bool {
+    match kind {
+        RULE => has_bad_word(body[0] as usize, &body[1..], reading),
+        STATE => body[0] > RIGHT || body[1] > BOTH,
+        ARC => has_bad_symbols(body[1], body[2], reading) || has_large_state(body, reading),
+        _ => false,
+    }
+}
+
+fn has_bad_word(length: usize, symbols: &[u8], reading: Reading) -> bool {
+    if length > reading.value(LONGEST_WORD, Wrong::WordOfSeven, LONGEST_WORD - 1) {
+        return true;
+    }
+    let (word, unused) = symbols.split_at(length);
+    let bad_symbol = word.iter().any(|symbol| *symbol as usize >= SYMBOLS);
+    let used_beyond = unused.iter().any(|symbol| *symbol != 0);
+    bad_symbol && !reading.is(Wrong::WordSymbolsFree) || used_beyond && !reading.is(Wrong::UnusedFree)
+}
+
+fn has_bad_symbols(lowest: u8, highest: u8, reading: Reading) -> bool {
+    let above = lowest > 15 || highest > reading.value(15, Wrong::HighestSixteen, 16);
+    above || lowest > highest || reading.is(Wrong::LowestBelowHighest) && lowest == highest
+}
+
+fn has_large_state(body: &[u8], reading: Reading) -> bool {
+    reading.is(Wrong::LargeStateIsField) && (body[0] as usize >= MOST_STATES || body[3] as usize >= MOST_STATES)
+}
+
+/// "a focus state has flags 3"
+fn flags_three_refused(part: u8, reading: Reading) -> bool {
+    (part == FOCUS || reading.is(Wrong::FlagsThreeAnywhere)) && !reading.is(Wrong::FlagsThreeFree)
+}
+
+impl Book {
+    /// "17th rule, 65th state or 513th arc"
+    fn is_full(&self, kind: u8, reading: Reading) -> bool {
+        let rules = reading.value(MOST_RULES, Wrong::SeventeenRules, MOST_RULES + 1);
+        let rules = reading.value(rules, Wrong::FifteenRules, MOST_RULES - 1);
+        let states = reading.value(MOST_STATES, Wrong::SixtyThreeStates, MOST_STATES - 1);
+        let arcs = reading.value(MOST_ARCS, Wrong::FiveHundredElevenArcs, MOST_ARCS - 1);
+        let arcs = reading.value(arcs, Wrong::FiveHundredThirteenArcs, MOST_ARCS + 1);
+        match kind {
+            RULE => self.words.len() >= rules,
+            STATE => self.states.len() >= states,
+            ARC => self.arcs.len() >= arcs,
+            _ => false,
+        }
+    }
+
+    /// "state, arc or end before any rule"
+    fn lacks_rule(&self, kind: u8, reading: Reading) -> bool {
+        let end_free = kind == END && reading.is(Wrong::NoRuleUntested);
+        kind != RULE && self.words.is_empty() && !end_free
+    }
+
+    /// "Both states of an arc belong to the latest rule, to the same part, and stand before it."
+    fn may_join(&self, from: usize, to: usize, reading: Reading) -> bool {
+        let (Some(from), Some(to)) = (self.states.get(from), self.states.get(to)) else {
+            return false;
+        };
+        let latest = self.words.len().wrapping_sub(1);
+        let in_latest = from.rule == latest && to.rule == latest;
+        let same_part = from.part == to.part || reading.is(Wrong::TwoPartsNamed);
+        same_part && (in_latest || reading.is(Wrong::EarlierRuleNamed))
+    }
+
+    fn add(&mut self, record: &Record) {
+        let body = record.body.unwrap_or_default();
+        match record.kind {
+            RULE => self.words.push(body[1..1 + body[0] as usize].to_vec()),
+            STATE => self.states.push(State {
+                rule: self.words.len() - 1,
+                part: body[0],
+                start: body[1] & START != 0,
+                accept: body[1] & ACCEPT != 0,
+            }),
+            ARC => {
+                self.arcs.push(Arc { from: body[0] as usize, lowest: body[1], highest: body[2], to: body[3] as usize })
+            }
+            _ => {}
+        }
+    }
+}

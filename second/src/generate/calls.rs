@@ -1,0 +1,51 @@
+//! Call number so-and-so of a run with a seed.
+
+use super::alphabet::Alphabet;
+use super::{accounts, buffers, damage, limits, rules, tapes};
+use crate::call::{Call, Operation};
+use crate::chance::Chance;
+use crate::draft;
+use crate::operations::LONGEST_TAPE;
+
+pub fn call(seed: u64, number: u64) -> Call {
+    let chance = &mut Chance::of(seed, number);
+    if let Some(call) = limits::limit_in_turn(number, chance) {
+        return call.within_limits();
+    }
+    let call = match chance.weighted(&[(6, 0), (12, 1), (82, 2)]) {
+        0 => limits::limit_call(chance),
+        1 => accounts::show_call(chance),
+        _ => ordinary_call(chance),
+    };
+    call.within_limits()
+}
+
+fn ordinary_call(chance: &mut Chance) -> Call {
+    let operation = chance.weighted(&[
+        (16, Operation::Check),
+        (16, Operation::Build),
+        (28, Operation::Rewrite),
+        (28, Operation::Account),
+    ]);
+    let alphabet = Alphabet::of(chance);
+    let rules = rules::rules(&alphabet, chance);
+    let records = draft::mixed_records(&rules, chance);
+    let damaged = if operation == Operation::Check { chance.below(10) < 8 } else { chance.one_in(7) };
+    let mut call = Call::new(operation);
+    call.fill = chance.weighted(&[(1, 0), (1, 255), (1, 1), (3, 170)]);
+    if call.fill == 170 {
+        call.fill = chance.byte();
+    }
+    call.book = if damaged { damage::damaged(records, chance) } else { records.concat() };
+    if matches!(operation, Operation::Rewrite | Operation::Account) {
+        call.tape = tapes::tape(&rules, &alphabet, chance);
+        if chance.one_in(14) {
+            tapes::spoil(&mut call.tape, chance);
+        }
+        if chance.one_in(100) {
+            call.tape.resize(LONGEST_TAPE + chance.between(1, 3), 0);
+        }
+    }
+    call.lengths = buffers::lengths(&call, chance);
+    call
+}

@@ -1,0 +1,154 @@
+//! Damaged books: every reply from 1 to 8, several faults in one record, truncation and garbage.
+
+use crate::chance::Chance;
+use crate::record::{self, ARC, BOTH, END, FOCUS, RULE, STATE};
+
+/// A book made from valid records by one to three damages.
+pub fn damaged(mut records: Vec<Vec<u8>>, chance: &mut Chance) -> Vec<u8> {
+    if chance.one_in(12) {
+        return garbage(chance);
+    }
+    if chance.one_in(30) {
+        return cut_at_once(chance);
+    }
+    for _ in 0..chance.weighted(&[(6, 1), (2, 2), (1, 3)]) {
+        damage(&mut records, chance);
+    }
+    let mut book = records.concat();
+    if chance.one_in(5) {
+        book.truncate(chance.below(book.len() + 1));
+    }
+    book
+}
+
+fn damage(records: &mut Vec<Vec<u8>>, chance: &mut Chance) {
+    if records.is_empty() {
+        return;
+    }
+    let at = chance.below(records.len());
+    match chance.below(12) {
+        0 => drop(records.pop()),
+        1 => records[at][0] = unknown_kind(chance),
+        2 => records.insert(0, faulty(chance)),
+        3 => records.insert(at, faulty(chance)),
+        4 => spoil_field(&mut records[at], chance),
+        5 => rename_states(records, chance),
+        6 => records.insert(at, record::state(FOCUS, BOTH)),
+        7 => records.push((0..chance.between(1, 5)).map(|_| chance.byte()).collect()),
+        8 => drop(records.remove(at)),
+        9 => records.insert(at, records[chance.below(records.len())].clone()),
+        10 => records[at].truncate(1),
+        _ => spoil_bytes(records, chance),
+    }
+}
+
+fn unknown_kind(chance: &mut Chance) -> u8 {
+    chance.weighted(&[(2, 0), (2, 5), (1, 6), (1, 128), (1, 255)])
+}
+
+/// A record of any kind whose fields are each near their bounds: none, one or several of them are at fault. Now and
+/// then its body is cut.
+pub fn faulty(chance: &mut Chance) -> Vec<u8> {
+    let kind = chance.weighted(&[(3, RULE), (4, STATE), (5, ARC), (1, END)]);
+    let mut record = faulty_of(kind, chance);
+    if chance.one_in(6) {
+        record.truncate(chance.between(1, record.len()));
+    }
+    record
+}
+
+pub fn faulty_of(kind: u8, chance: &mut Chance) -> Vec<u8> {
+    match kind {
+        RULE => faulty_rule(chance),
+        STATE => {
+            let part = chance.weighted(&[(3, 0), (5, FOCUS), (3, 2), (1, 3), (1, 255)]);
+            let flags = chance.weighted(&[(1, 0), (1, 1), (1, 2), (6, BOTH), (1, 4), (1, 255)]);
+            record::state(part, flags)
+        }
+        ARC => {
+            let (from, to) = (near_state(chance), near_state(chance));
+            let (lowest, highest) = (near_symbol(chance), near_symbol(chance));
+            match chance.one_in(2) {
+                true => record::arc(from, lowest, highest, to),
+                false => record::arc(from, lowest.min(highest), lowest.max(highest), to),
+            }
+        }
+        _ => record::end(),
+    }
+}
+
+fn near_state(chance: &mut Chance) -> u8 {
+    let low = chance.below(6) as u8;
+    let any = chance.below(64) as u8;
+    chance.weighted(&[(6, low), (3, any), (1, 63), (1, 64), (1, 65), (1, 255)])
+}
+
+fn near_symbol(chance: &mut Chance) -> u8 {
+    let good = chance.below(16) as u8;
+    chance.weighted(&[(8, good), (2, 15), (2, 16), (1, 255)])
+}
+
+fn faulty_rule(chance: &mut Chance) -> Vec<u8> {
+    let length = chance.weighted(&[(1, 0), (2, 3), (1, 7), (2, 8), (2, 9), (1, 255)]);
+    let mut rule = record::rule(&[]);
+    rule[1] = length;
+    let used = (length as usize).min(record::LONGEST_WORD);
+    rule[2..2 + used].iter_mut().for_each(|symbol| *symbol = chance.below(16) as u8);
+    match chance.below(4) {
+        0 => rule[2 + chance.below(8)] = 1,
+        1 => rule[2 + chance.below(used.max(1))] = 16,
+        2 => rule[9] = chance.byte(),
+        _ => {}
+    }
+    rule
+}
+
+/// One field of a record set to any value, most often one just outside its bounds.
+fn spoil_field(record: &mut [u8], chance: &mut Chance) {
+    if record.len() > 1 {
+        let at = chance.between(1, record.len() - 1);
+        record[at] = chance.weighted(&[(2, 1), (2, 3), (1, 4), (1, 8), (2, 9), (1, 15), (4, 16), (1, 64), (1, 255)]);
+    }
+}
+
+/// An arc of the book is made to name other states: of another part, of another rule, or not yet given.
+fn rename_states(records: &mut [Vec<u8>], chance: &mut Chance) {
+    let states = records.iter().filter(|record| record[0] == STATE).count();
+    let arcs: Vec<usize> = (0..records.len()).filter(|at| records[*at][0] == ARC).collect();
+    if arcs.is_empty() {
+        return;
+    }
+    let arc = chance.pick(&arcs);
+    let field = chance.pick(&[1, 4]);
+    if let Some(state) = records[arc].get_mut(field) {
+        *state = chance.below(states + 2) as u8;
+    }
+}
+
+fn spoil_bytes(records: &mut [Vec<u8>], chance: &mut Chance) {
+    for _ in 0..chance.between(1, 3) {
+        let at = chance.below(records.len());
+        let byte = chance.below(records[at].len().max(1));
+        if let Some(byte) = records[at].get_mut(byte) {
+            *byte = if chance.one_in(2) { chance.byte() } else { chance.below(20) as u8 };
+        }
+    }
+}
+
+/// A book that stops inside its first record, which need not be a rule.
+fn cut_at_once(chance: &mut Chance) -> Vec<u8> {
+    let mut record = faulty(chance);
+    record.truncate(chance.between(1, record.len()));
+    record
+}
+
+/// Bytes without sense; small ones keep the reader going longer.
+fn garbage(chance: &mut Chance) -> Vec<u8> {
+    let length = chance.below(60);
+    let bound = chance.pick(&[3, 5, 20, 256]);
+    let mut bytes: Vec<u8> = (0..length).map(|_| chance.below(bound) as u8).collect();
+    if chance.one_in(2) {
+        bytes.splice(0..0, record::rule(&[]));
+    }
+    bytes
+}

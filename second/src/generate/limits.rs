@@ -1,0 +1,204 @@
+//! Sizes at every limit and one past it.
+
+use super::alphabet::Alphabet;
+use super::full;
+use super::tapes;
+use crate::book::{MOST_ARCS, MOST_RULES, MOST_STATES};
+use crate::call::{Call, Lengths, Operation, LONGEST_BOOK, LONGEST_TAPE as LONGEST_SENT};
+use crate::chance::Chance;
+use crate::draft::{self, Part, Rule};
+use crate::house;
+use crate::operations::LONGEST_TAPE;
+use crate::record::{self, ARC, RULE, STATE};
+use crate::workspace;
+
+/// One way to stand at a limit: its name, how often, and the call.
+pub type Limit = (&'static str, usize, fn(&mut Chance) -> Call);
+
+pub const LIMITS: &[Limit] = &[
+    ("16 or 17 rules", 100, |chance| counted(RULE, MOST_RULES, chance)),
+    ("64 or 65 states", 100, |chance| counted(STATE, MOST_STATES, chance)),
+    ("512 or 513 arcs", 100, |chance| counted(ARC, MOST_ARCS, chance)),
+    ("256 or 257 left sets", 80, left_sets),
+    ("256 or 257 right sets", 80, right_sets),
+    ("eight or nine places", 150, places),
+    ("4,096 or 4,097 symbols", 60, long_tape),
+    ("longest book sent", 30, long_book),
+    ("longest output", 20, long_output),
+    ("longest account", 20, long_account),
+    ("many candidates", 10, |chance| every_candidate(1, chance)),
+    ("most candidates", 1, |chance| every_candidate(MOST_RULES, chance)),
+    ("house book", 120, house_tape),
+];
+
+/// From this call on a run goes through the limits in turn, so that a run of some length surely meets each of them;
+/// before and after they come by chance.
+const FIRST_IN_TURN: u64 = 1000;
+
+pub fn limit_in_turn(number: u64, chance: &mut Chance) -> Option<Call> {
+    let turn = number.checked_sub(FIRST_IN_TURN)?;
+    LIMITS.get(turn as usize).map(|(_, _, maker)| maker(chance))
+}
+
+pub fn limit_call(chance: &mut Chance) -> Call {
+    let makers: Vec<_> = LIMITS.iter().map(|(_, weight, maker)| (*weight, *maker)).collect();
+    chance.weighted(&makers)(chance)
+}
+
+/// A call of a book with everything lent that it needs, unless a length is given otherwise.
+fn call_with(book: Vec<u8>, tape: Vec<u8>, chance: &mut Chance) -> Call {
+    let operation = chance.pick(&[Operation::Build, Operation::Rewrite, Operation::Account]);
+    let mut call = Call::new(operation);
+    call.book = book;
+    call.fill = chance.byte();
+    call.lengths.rows = workspace::ROW_BYTES + chance.below(2);
+    call.lengths.sets = workspace::SETS + chance.below(2);
+    if operation != Operation::Build {
+        call.lengths.scratch = tape.len() + 1;
+        call.tape = tape;
+        lend_results(&mut call, chance);
+    }
+    call
+}
+
+fn lend_results(call: &mut Call, chance: &mut Chance) {
+    let all = super::buffers::lengths(call, chance);
+    call.lengths = Lengths { out: all.out, origins: all.origins, lines: all.lines, ..call.lengths };
+}
+
+fn counted(kind: u8, limit: usize, chance: &mut Chance) -> Call {
+    let book = match chance.one_in(2) {
+        true => full::filled(kind, limit, chance).concat(),
+        false => full::overfilled(kind, chance),
+    };
+    if chance.one_in(2) {
+        let mut call = Call::new(Operation::Check);
+        call.book = book;
+        return call;
+    }
+    let alphabet = Alphabet::of(chance);
+    let tape = tapes::tape(&[], &alphabet, chance);
+    call_with(book, tape, chance)
+}
+
+/// A number of sets at 256 or close to it.
+fn near_256(chance: &mut Chance) -> Part {
+    let sets = chance.weighted(&[(1, 250), (2, 255), (4, 256), (4, 257), (1, 258)]);
+    let wide = chance.between(12, 21);
+    full::counters(sets, wide, chance)
+}
+
+/// The rule with the many sets, and a small one that has something to replace.
+fn call_with_sets(many: Rule, chance: &mut Chance) -> Call {
+    let small = Rule::new(Part::any(), Part::word(&[1, 2]), Part::any(), &[3]);
+    let alphabet = Alphabet::all();
+    let tape = tapes::tape(std::slice::from_ref(&small), &alphabet, chance);
+    call_with(draft::book(&[many, small]), tape, chance)
+}
+
+fn left_sets(chance: &mut Chance) -> Call {
+    let many = Rule::idle(near_256(chance), Part::none());
+    call_with_sets(many, chance)
+}
+
+fn right_sets(chance: &mut Chance) -> Call {
+    // The small rule's focus states are in the right sets too; on its own the idle rule has the wanted number.
+    let many = Rule::idle(Part::none(), near_256(chance).mirrored());
+    if chance.one_in(2) {
+        return call_with_sets(many, chance);
+    }
+    let tape = tapes::tape(&[], &Alphabet::all(), chance);
+    call_with(draft::book(&[many]), tape, chance)
+}
+
+fn places(chance: &mut Chance) -> Call {
+    let mut part = || chance.weighted(&[(1, Part::any()), (2, full::places_before(8)), (3, full::places_before(9))]);
+    let many = Rule::idle(part(), part().mirrored());
+    let tape = tapes::tape(&[], &Alphabet::all(), chance);
+    let mut call = call_with(draft::book(&[many]), tape, chance);
+    // Several refusals at once, so that their order shows.
+    if chance.one_in(2) {
+        call.lengths.scratch = call.lengths.scratch.min(call.tape.len());
+    }
+    call
+}
+
+fn repeated(pattern: &[u8], length: usize) -> Vec<u8> {
+    pattern.iter().copied().cycle().take(length).collect()
+}
+
+fn long_tape(chance: &mut Chance) -> Call {
+    let alphabet = Alphabet::of(chance);
+    let length = chance.weighted(&[(6, LONGEST_TAPE), (3, LONGEST_TAPE + 1), (1, LONGEST_SENT), (1, LONGEST_TAPE - 1)]);
+    let pattern: Vec<u8> = (0..chance.between(1, 200)).map(|_| alphabet.symbol(chance)).collect();
+    let mut tape = repeated(&pattern, length);
+    if chance.one_in(3) {
+        tapes::spoil(&mut tape, chance);
+    }
+    let focus = Part::word(&[alphabet.symbol(chance), alphabet.symbol(chance)]);
+    let left = super::parts::context(&alphabet, chance);
+    let right = super::parts::context(&alphabet, chance);
+    let rule = Rule::new(left, focus, right, &super::rules::word(&alphabet, chance));
+    let mut call = call_with(draft::book(&[rule]), tape, chance);
+    if chance.one_in(4) {
+        call.lengths.scratch = call.lengths.scratch.saturating_sub(1);
+    }
+    call
+}
+
+/// Bytes after the end record, as many as can be sent, or as many arcs as come before the refusal.
+fn long_book(chance: &mut Chance) -> Call {
+    let mut book = draft::book(&[Rule::idle(Part::any(), Part::any())]);
+    if chance.one_in(2) {
+        book.pop();
+        while book.len() < LONGEST_BOOK {
+            book.extend(record::arc(0, 0, 15, 0));
+        }
+    }
+    book.resize(LONGEST_BOOK, record::END);
+    let mut call = Call::new(chance.pick(&[Operation::Check, Operation::Build]));
+    call.book = book;
+    call
+}
+
+/// Eight symbols for each of 4,096.
+fn long_output(chance: &mut Chance) -> Call {
+    let word: Vec<u8> = (0..8).map(|_| chance.below(16) as u8).collect();
+    let rule = Rule::new(Part::any(), Part::word(&[7]), Part::any(), &word);
+    let mut call = call_with(draft::book(&[rule]), repeated(&[7], LONGEST_TAPE), chance);
+    if call.operation == Operation::Rewrite {
+        let needed = word.len() * LONGEST_TAPE;
+        call.lengths.out = needed - chance.weighted(&[(3, 0), (1, 1)]);
+        call.lengths.origins = needed - chance.weighted(&[(3, 0), (1, 1)]);
+    }
+    call
+}
+
+/// Accounts of about as many words as can be lent: 161 symbols have 13,041 stretches, 65,205 words.
+fn long_account(chance: &mut Chance) -> Call {
+    let length = chance.between(159, 163);
+    let mut call = Call::new(Operation::Account);
+    call.book = draft::book(&[full::every_stretch(&[1])]);
+    call.tape = (0..length).map(|_| chance.below(16) as u8).collect();
+    call.fill = chance.byte();
+    let (rows, sets) = (workspace::ROW_BYTES, workspace::SETS);
+    let lines = super::buffers::needed(&call).min(crate::call::MOST_LINE_WORDS) - chance.below(2);
+    call.lengths = Lengths { rows, sets, scratch: length + 1, lines, ..Lengths::default() };
+    call
+}
+
+/// Every stretch of the longest tape for each rule: with 16 rules 134,250,496 candidates.
+fn every_candidate(rules: usize, chance: &mut Chance) -> Call {
+    let mut call = Call::new(Operation::Account);
+    call.book = draft::book(&vec![full::every_stretch(&[]); rules]);
+    call.tape = repeated(&[1, 2], LONGEST_TAPE);
+    let (rows, sets) = (workspace::ROW_BYTES, workspace::SETS);
+    let lines = chance.pick(&[0, 5, crate::call::MOST_LINE_WORDS]);
+    call.lengths = Lengths { rows, sets, scratch: LONGEST_TAPE + 1, lines, ..Lengths::default() };
+    call
+}
+
+fn house_tape(chance: &mut Chance) -> Call {
+    let tape = tapes::tape(&house::rules(), &Alphabet::of(chance), chance);
+    call_with(house::book(), tape, chance)
+}

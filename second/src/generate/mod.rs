@@ -1,0 +1,14 @@
+//! Calls at random: valid books with many overlapping candidates, damaged books, tapes with bad symbols, buffers of
+//! every length, and the limits.
+
+pub mod accounts;
+pub mod alphabet;
+pub mod buffers;
+pub mod calls;
+pub mod damage;
+pub mod full;
+pub mod limits;
+pub mod lines;
+pub mod parts;
+pub mod rules;
+pub mod tapes;

@@ -1,0 +1,58 @@
+//! Rules at random, often made from an earlier rule so that candidates overlap and tie.
+
+use super::alphabet::Alphabet;
+use super::parts;
+use crate::book::{MOST_ARCS, MOST_RULES, MOST_STATES};
+use crate::chance::Chance;
+use crate::draft::Rule;
+
+/// The rules of a valid book.
+pub fn rules(alphabet: &Alphabet, chance: &mut Chance) -> Vec<Rule> {
+    let wanted = chance.weighted(&[(6, 1), (7, 2), (5, 3), (3, 4), (2, 6), (1, MOST_RULES)]);
+    let mut rules: Vec<Rule> = Vec::new();
+    for _ in 0..wanted {
+        let rule = match rules.is_empty() || chance.one_in(2) {
+            true => new_rule(alphabet, chance),
+            false => like_an_earlier(&rules, alphabet, chance),
+        };
+        if !fits(&rules, &rule) {
+            break;
+        }
+        rules.push(rule);
+    }
+    rules
+}
+
+fn fits(rules: &[Rule], rule: &Rule) -> bool {
+    let states: usize = rules.iter().map(Rule::states).sum();
+    let arcs: usize = rules.iter().map(Rule::arcs).sum();
+    states + rule.states() <= MOST_STATES && arcs + rule.arcs() <= MOST_ARCS
+}
+
+fn new_rule(alphabet: &Alphabet, chance: &mut Chance) -> Rule {
+    let left = parts::context(alphabet, chance);
+    let focus = parts::focus(alphabet, chance);
+    let right = parts::context(alphabet, chance);
+    Rule::new(left, focus, right, &word(alphabet, chance))
+}
+
+/// Another word always; then the same three parts, another context, or a longer focus.
+fn like_an_earlier(rules: &[Rule], alphabet: &Alphabet, chance: &mut Chance) -> Rule {
+    let mut rule = chance.pick(rules);
+    rule.word = word(alphabet, chance);
+    let [left, focus, right] = &mut rule.parts;
+    match chance.below(5) {
+        0 => *left = parts::context(alphabet, chance),
+        1 => *right = parts::context(alphabet, chance),
+        2 => *focus = parts::lengthened(focus.clone(), alphabet, chance),
+        3 => *focus = parts::focus(alphabet, chance),
+        _ => {}
+    }
+    rule
+}
+
+pub fn word(alphabet: &Alphabet, chance: &mut Chance) -> Vec<u8> {
+    let length = chance.weighted(&[(4, 0), (6, 1), (4, 2), (2, 3), (1, 5), (1, 7), (1, 8)]);
+    let any = Alphabet::all();
+    (0..length).map(|_| if chance.one_in(3) { any.symbol(chance) } else { alphabet.symbol(chance) }).collect()
+}

@@ -1,0 +1,51 @@
+//! The books of the hand-worked table beside the house book: document 01, "Tapes worked by hand".
+
+use crate::draft::{self, Part, Rule};
+
+/// "Letters are numbered freely below 16."
+pub mod letters {
+    pub const SMALL_A: u8 = 0;
+    pub const SMALL_B: u8 = 1;
+    pub const LARGE_A: u8 = 2;
+    pub const X: u8 = 3;
+    pub const Y: u8 = 4;
+    pub const Z: u8 = 5;
+}
+use letters::{LARGE_A, SMALL_A, SMALL_B, X, Y, Z};
+
+/// A tape of letters.
+pub fn tape(text: &str) -> Vec<u8> {
+    let number = |letter| match letter {
+        'a' => SMALL_A,
+        'b' => SMALL_B,
+        'A' => LARGE_A,
+        'x' => X,
+        'y' => Y,
+        'z' => Z,
+        other => panic!("no letter {other}"),
+    };
+    text.chars().map(number).collect()
+}
+
+/// "P (001, example 3.3): left a, right aa or b; rule 0 two or more a's to A, rule 1 ab to nothing."
+pub fn p() -> Vec<u8> {
+    let left = Part::word(&[SMALL_A]);
+    let right = Part::word(&[SMALL_A, SMALL_A]).or(&Part::word(&[SMALL_B]));
+    let two_or_more = Part::word(&[SMALL_A, SMALL_A]).with_arc(2, SMALL_A, SMALL_A, 2);
+    draft::book(&[
+        Rule::new(left.clone(), two_or_more, right.clone(), &[LARGE_A]),
+        Rule::new(left, Part::word(&[SMALL_A, SMALL_B]), right, &[]),
+    ])
+}
+
+/// "Q (004): one or more a's to A, left b, right a."
+pub fn q() -> Vec<u8> {
+    let one_or_more = Part::word(&[SMALL_A]).with_arc(1, SMALL_A, SMALL_A, 1);
+    draft::book(&[Rule::new(Part::word(&[SMALL_B]), one_or_more, Part::word(&[SMALL_A]), &[LARGE_A])])
+}
+
+/// "S (004): xy or yz to nothing, left x, right z."
+pub fn s() -> Vec<u8> {
+    let focus = Part::word(&[X, Y]).or(&Part::word(&[Y, Z]));
+    draft::book(&[Rule::new(Part::word(&[X]), focus, Part::word(&[Z]), &[])])
+}

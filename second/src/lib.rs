@@ -1,0 +1,38 @@
+//! The independent second program: what document 01 says, worked out by brute force, and compared with what the
+//! proved operations do. It shares no code, no table and no constant with them.
+//!
+//! The reference is read in this order: `record`, `book`, `language`, `candidates`, `taken`, `output`, `account`,
+//! `sets`, `numbering`, `workspace`, `show`, `operations`, `program`. Beside it stand the random calls (`generate`),
+//! the driving of another program (`call`, `answer`, `command`, `comparison`), the search for a smallest failing case
+//! (`shrink`), and the commands (`check`, `check_program`, `serve`).
+
+pub mod account;
+pub mod answer;
+pub mod book;
+pub mod call;
+pub mod candidates;
+pub mod chance;
+pub mod check;
+pub mod check_program;
+pub mod command;
+pub mod comparison;
+pub mod draft;
+pub mod generate;
+pub mod hand;
+pub mod hex;
+pub mod house;
+pub mod language;
+pub mod numbering;
+pub mod operations;
+pub mod output;
+pub mod peer;
+pub mod program;
+pub mod reading;
+pub mod record;
+pub mod serve;
+pub mod sets;
+pub mod show;
+pub mod shrink;
+pub mod taken;
+pub mod tally;
+pub mod workspace;

@@ -1,0 +1,192 @@
+//! How document 01 is read: truly, or with one wrong reading put in.
+//!
+//! A check that cannot fail is a defect, so every wrong reading below can be put into the reference
+//! (`--wrong NAME`), and the tests show that the fixed-seed run catches each of them.
+
+/// Declares the wrong readings: one name, one sentence each.
+macro_rules! wrong_readings {
+    ($($variant:ident, $name:literal, $says:literal;)*) => {
+        #[derive(Clone, Copy, PartialEq, Eq, Debug)]
+        pub enum Wrong { $($variant),* }
+
+        impl Wrong {
+            pub const ALL: &'static [Wrong] = &[$(Wrong::$variant),*];
+
+            /// The name that `--wrong` takes.
+            pub fn name(self) -> &'static str {
+                match self { $(Wrong::$variant => $name),* }
+            }
+
+            /// The wrong reading in one sentence.
+            pub fn says(self) -> &'static str {
+                match self { $(Wrong::$variant => $says),* }
+            }
+        }
+    };
+}
+
+wrong_readings! {
+    // The five of document 01; the last of them says two things.
+    ContextInOutput, "context-in-output", "A context is looked for in the output already written.";
+    LongestFocusFirst, "longest-focus-first", "The longest focus is followed although its right context fails.";
+    LowestRuleFirst, "lowest-rule-first", "The lowest rule wins over a longer stretch of a higher rule.";
+    OtherLeft, "other-left", "One rule's focus is carried on because another rule's left context held.";
+    FirstEnd, "first-end", "The scan stops at the first end that fits.";
+    StartInside, "start-inside", "A stretch starts inside one already taken.";
+
+    // The book.
+    CutPlaceAtEnd, "cut-place-at-end", "A cut body is placed at the end of the book.";
+    MissingKindPlace, "missing-kind-place", "A missing kind is placed at the last byte of the book.";
+    AfterEndPlace, "after-end-place", "A byte after the end record is placed at the end record.";
+    AfterEndIgnored, "after-end-ignored", "Bytes after the end record are ignored.";
+    NoRuleBeforeCut, "no-rule-before-cut", "4 is tested before a cut body.";
+    FullBeforeCut, "full-before-cut", "3 is tested before a cut body.";
+    FieldsBeforeNoRule, "fields-before-no-rule", "5 is tested before 4.";
+    NamesBeforeNoRule, "names-before-no-rule", "6 is tested before 4.";
+    FieldsBeforeFull, "fields-before-full", "5 is tested before 3.";
+    NamesBeforeFull, "names-before-full", "6 is tested before 3.";
+    NamesBeforeFields, "names-before-fields", "6 is tested before 5.";
+    FlagsBeforeFull, "flags-before-full", "7 is tested before 3.";
+    NoRuleUntested, "no-rule-untested", "An end before any rule is accepted.";
+    SeventeenRules, "seventeen-rules", "17 rules are accepted.";
+    FifteenRules, "fifteen-rules", "The 16th rule is refused.";
+    SixtyThreeStates, "sixty-three-states", "The 64th state is refused.";
+    FiveHundredElevenArcs, "511-arcs", "The 512th arc is refused.";
+    FiveHundredThirteenArcs, "513-arcs", "513 arcs are accepted.";
+    WordOfSeven, "word-of-seven", "A replacement of eight symbols is refused.";
+    UnusedFree, "unused-free", "An unused symbol byte need not be 0.";
+    WordSymbolsFree, "word-symbols-free", "A replacement symbol may be above 15.";
+    LowestBelowHighest, "lowest-below-highest", "Lowest must be strictly below highest.";
+    HighestSixteen, "highest-sixteen", "An arc may have 16 as its highest symbol.";
+    HighestOpen, "highest-open", "An arc is not open to its highest symbol.";
+    EarlierRuleNamed, "earlier-rule-named", "An arc may name states of an earlier rule.";
+    TwoPartsNamed, "two-parts-named", "An arc may lead from one part to another.";
+    LargeStateIsField, "large-state-is-field", "A state number of 64 or more is 5, not 6.";
+    FlagsThreeAnywhere, "flags-three-anywhere", "Flags 3 are refused in every part.";
+    FlagsThreeFree, "flags-three-free", "A focus state may have flags 3.";
+    CountsKept, "counts-kept", "A refused book still returns its counts.";
+    EmptyPartHolds, "empty-part-holds", "A context part without states asks for nothing.";
+    OneStart, "one-start", "Only the first start state of a part counts.";
+    OneAccept, "one-accept", "Only the first accept state of a part counts.";
+
+    // The tape and the order after the book.
+    TapeOf4095, "tape-of-4095", "4,096 symbols are refused.";
+    TapeOf4097, "tape-of-4097", "4,097 symbols are accepted.";
+    LastBadSymbol, "last-bad-symbol", "10 is placed at the last bad symbol.";
+    BadSymbolFromOne, "bad-symbol-from-one", "Tape positions are counted from 1.";
+    SymbolBeforeLength, "symbol-before-length", "10 is tested before 9.";
+    WorkspaceBeforeSymbol, "workspace-before-symbol", "11 is tested before 10.";
+    ScratchBeforeWorkspace, "scratch-before-workspace", "12 is tested before 11.";
+    SetsBeforeScratch, "sets-before-scratch", "13 is tested before 12.";
+    RightBeforeLeft, "right-before-left", "14 is tested before 13.";
+    RowsAlone, "rows-alone", "11 looks at the rows alone.";
+    SetsAlone, "sets-alone", "11 looks at the sets alone.";
+    ScratchOfN, "scratch-of-n", "A scratch of n bytes is enough.";
+
+    // The two automata.
+    LeftFromFront, "left-from-front", "The left set's runs begin at the tape's front only.";
+    FocusWithoutRight, "focus-without-right", "The right set holds focus states whose right language fails.";
+    OtherRight, "other-right", "The right set holds focus states because another rule's right language held.";
+    FocusEndLater, "focus-end-later", "A focus state is in the right set only if its stretch has a symbol.";
+    RightSetAnchored, "right-set-anchored", "A right-part state's word must reach the tape's end.";
+    LeftSetWithFocus, "left-set-with-focus", "The left set holds focus states too.";
+    SymbolsDownward, "symbols-downward", "The sets are numbered for symbols 15 down to 0.";
+    DeepestFirst, "deepest-first", "The newest set is numbered on before the older ones.";
+    RightRowsBehind, "right-rows-behind", "A right row's symbol is put behind the tape.";
+    SidesSwapped, "sides-swapped", "Right rows and sets stand before the left ones.";
+    LimitOf255, "limit-of-255", "The 256th set is refused.";
+    PastCountKept, "past-count-kept", "Entries past a count keep their old values.";
+    RefusalKeepsWorkspace, "refusal-keeps-workspace", "13 and 14 change nothing.";
+    FourteenKeepsLeft, "fourteen-keeps-left", "14 leaves the left rows and sets as built.";
+    RefusalClearsAll, "refusal-clears-all", "13 and 14 clear the lent rows and sets to their ends.";
+    RefusalClearsScratch, "refusal-clears-scratch", "13 and 14 clear the scratch.";
+    ScratchRefusalClears, "scratch-refusal-clears", "12 leaves the workspace parts all 0.";
+    AcceptanceClearsAll, "acceptance-clears-all", "Acceptance clears the bytes past the workspace.";
+    ScratchShifted, "scratch-shifted", "Scratch byte i is the number of the right set at i + 1.";
+    ScratchLeft, "scratch-left", "The scratch holds the numbers of the left sets.";
+    ScratchWithoutEnd, "scratch-without-end", "Scratch byte n is not written.";
+
+    // Candidates, taken stretches, output.
+    LeftNotEmpty, "left-not-empty", "The word of a left context is never empty.";
+    RightNotEmpty, "right-not-empty", "The word of a right context is never empty.";
+    LeftAnchored, "left-anchored", "The word of a left context begins at the tape's front.";
+    RightAnchored, "right-anchored", "The word of a right context reaches the tape's end.";
+    HighestRuleTies, "highest-rule-ties", "Among equal stretches the highest rule is taken.";
+    TouchingRefused, "touching-refused", "A taken start is strictly after the end of the stretch before.";
+    OriginsCountUp, "origins-count-up", "The origins of a replacement count up from the start.";
+    OriginOfEnd, "origin-of-end", "The origin of a replacement is the end of the stretch.";
+    OriginInOutput, "origin-in-output", "The origin of a kept symbol is its place in the output.";
+    TakenCountsCandidates, "taken-counts-candidates", "REWRITE returns the number of candidates.";
+    OriginsUntested, "origins-untested", "15 of REWRITE looks at the output buffer alone.";
+    OutUntested, "out-untested", "15 of REWRITE looks at the origins alone.";
+    RoomMissing, "room-missing", "15 is placed at what is missing, not at what is needed.";
+    RoomExactRefused, "room-exact-refused", "A buffer of exactly the needed length is refused.";
+    RoomKeepsScratch, "room-keeps-scratch", "15 leaves the scratch unchanged.";
+    RoomKeepsWorkspace, "room-keeps-workspace", "15 leaves the workspace unchanged.";
+    RoomWritesFront, "room-writes-front", "15 writes as much of the output or account as there is room for.";
+    RoomKeepsCounts, "room-keeps-counts", "15 still returns the counts.";
+    OutputClearsRest, "output-clears-rest", "Acceptance clears the rest of each output buffer.";
+
+    // The account and SHOW.
+    RoomInLines, "room-in-lines", "15 of ACCOUNT is placed at lines, not words.";
+    VerdictsSwapped, "verdicts-swapped", "Verdicts 1 and 2 are exchanged.";
+    VerdictTieShorter, "verdict-tie-shorter", "A candidate of another rule than the taken one always has verdict 2.";
+    VerdictEndInside, "verdict-end-inside", "Verdict 3 has the candidate's own start as deciding start.";
+    OrderRuleBeforeEnd, "order-rule-before-end", "The account's order is start, rule, end.";
+    OrderRuleFirst, "order-rule-first", "The account's order is rule, start, end.";
+    LongestLineFirst, "longest-line-first", "The account lists a start's longest candidate first.";
+    TakenLinesAlone, "taken-lines-alone", "The account lists taken stretches alone.";
+    LinesFromOne, "lines-from-one", "SHOW counts lines from 1.";
+    LastLineHidden, "last-line-hidden", "SHOW does not reach the last line of the account.";
+    LineBegunIsEnough, "line-begun-is-enough", "SHOW reads a line whose last words are missing.";
+    LineWraps, "line-wraps", "A huge line number wraps around at 32 bits.";
+    EmptyStretchShown, "empty-stretch-shown", "If start and end are equal SHOW hands back the empty part there.";
+    TapeEndHidden, "tape-end-hidden", "SHOW refuses a stretch that ends at the tape's end.";
+    PastTapeCut, "past-tape-cut", "SHOW cuts a stretch that goes past the tape.";
+    EmptyPartAtEnd, "empty-part-at-end", "SHOW's empty part stands at the tape's end.";
+
+    // The program.
+    CapitalsRead, "capitals-read", "A to F are hex digits too.";
+    ReturnDropped, "return-dropped", "A carriage return before the newline is dropped.";
+    OtherDropped, "other-dropped", "Another character is skipped.";
+    EmptyLineSkipped, "empty-line-skipped", "An empty line is no tape.";
+    LastNewlineAddsTape, "last-newline-adds-tape", "A final newline begins one more tape.";
+    LastLineNeedsNewline, "last-line-needs-newline", "A last line without newline is not read.";
+    EmptyOutputBlank, "empty-output-blank", "An empty output prints nothing in its place.";
+    AccountOf5999, "account-of-5999", "The account has 5,999 words.";
+    AccountOf6005, "account-of-6005", "The account has 6,005 words.";
+    ShortAccountAlone, "short-account-alone", "A short account prints X alone.";
+    RefusalEndsRun, "refusal-ends-run", "A refusal ends the run, not the tape.";
+}
+
+/// How the reference reads document 01 in one run.
+#[derive(Clone, Copy)]
+pub struct Reading {
+    wrong: Option<Wrong>,
+}
+
+impl Reading {
+    /// Document 01 as it stands.
+    pub const TRUE: Reading = Reading { wrong: None };
+
+    pub fn with(wrong: Wrong) -> Reading {
+        Reading { wrong: Some(wrong) }
+    }
+
+    pub fn named(name: &str) -> Option<Reading> {
+        Wrong::ALL.iter().find(|wrong| wrong.name() == name).map(|wrong| Reading::with(*wrong))
+    }
+
+    pub fn is(self, wrong: Wrong) -> bool {
+        self.wrong == Some(wrong)
+    }
+
+    /// The true value, or the other one under that wrong reading.
+    pub fn value<T>(self, truly: T, wrong: Wrong, wrongly: T) -> T {
+        if self.is(wrong) {
+            wrongly
+        } else {
+            truly
+        }
+    }
+}

@@ -1,0 +1,43 @@
+//! SHOW: document 01, "hands back that stretch of the tape itself".
+
+use std::ops::Range;
+
+use crate::account::WORDS_A_LINE;
+use crate::reading::{Reading, Wrong};
+
+/// The part of the tape that SHOW hands back.
+///
+/// "If the line is not wholly inside the account, or its start is not below its end, or its end is past the tape, it
+/// hands back the empty part at the tape's front."
+pub fn show(tape: &[u8], account: &[u16], line: u32, reading: Reading) -> Range<usize> {
+    let empty = reading.value(0..0, Wrong::EmptyPartAtEnd, tape.len()..tape.len());
+    let Some((start, end)) = stretch(account, line, reading) else { return empty };
+    if reading.is(Wrong::EmptyStretchShown) && start == end && end <= tape.len() {
+        return start..end;
+    }
+    let end = reading.value(end, Wrong::PastTapeCut, end.min(tape.len()));
+    let past = end > reading.value(tape.len(), Wrong::TapeEndHidden, tape.len().saturating_sub(1));
+    if start >= end || past {
+        return empty;
+    }
+    start..end
+}
+
+/// Start and end of a line that is wholly inside the account; the first line is line 0.
+fn stretch(account: &[u16], line: u32, reading: Reading) -> Option<(usize, usize)> {
+    let line = match reading.is(Wrong::LinesFromOne) {
+        false => u64::from(line),
+        true => u64::from(line).checked_sub(1)?,
+    };
+    let first = match reading.is(Wrong::LineWraps) {
+        false => line * WORDS_A_LINE as u64,
+        true => u64::from((line as u32).wrapping_mul(WORDS_A_LINE as u32)),
+    };
+    let needed = reading.value(WORDS_A_LINE, Wrong::LineBegunIsEnough, 3) as u64;
+    let needed = reading.value(needed, Wrong::LastLineHidden, needed + 1);
+    if first + needed > account.len() as u64 {
+        return None;
+    }
+    let first = first as usize;
+    Some((account[first + 1] as usize, account[first + 2] as usize))
+}

@@ -1,0 +1,80 @@
+//! The workspace and the scratch as a call leaves them.
+
+use crate::answer::Lent;
+use crate::book::{Book, SYMBOLS};
+use crate::numbering::{Side, MOST_SETS};
+use crate::reading::{Reading, Wrong};
+use crate::sets::{left_sets, right_sets};
+
+/// "The workspace is 8,192 bytes (left rows, then right rows: 256 rows of 16 next numbers a side)"
+pub const ROW_BYTES: usize = 2 * MOST_SETS * SYMBOLS;
+/// "and 512 64-bit sets (left, then right)"
+pub const SETS: usize = 2 * MOST_SETS;
+
+/// Only a wrong reading comes to write into a workspace that is too short.
+fn is_short(lent: &Lent) -> bool {
+    lent.rows.len() < ROW_BYTES || lent.sets.len() < SETS
+}
+
+/// "13 and 14 leave the workspace parts all 0 and nothing else changed."
+pub fn clear(lent: &mut Lent, reading: Reading) {
+    if reading.is(Wrong::RefusalKeepsWorkspace) || is_short(lent) {
+        return;
+    }
+    if reading.is(Wrong::RefusalClearsAll) {
+        lent.rows.fill(0);
+        lent.sets.fill(0);
+    }
+    if reading.is(Wrong::RefusalClearsScratch) {
+        lent.scratch.fill(0);
+    }
+    lent.rows[..ROW_BYTES].fill(0);
+    lent.sets[..SETS].fill(0);
+}
+
+/// Writes both sides; "Entries past a count are 0."
+pub fn write(lent: &mut Lent, left: &Side, right: &Side, reading: Reading) {
+    if is_short(lent) {
+        return;
+    }
+    if !reading.is(Wrong::PastCountKept) {
+        lent.rows[..ROW_BYTES].fill(0);
+        lent.sets[..SETS].fill(0);
+    }
+    if reading.is(Wrong::AcceptanceClearsAll) {
+        lent.rows.fill(0);
+        lent.sets.fill(0);
+    }
+    let sides = reading.value([left, right], Wrong::SidesSwapped, [right, left]);
+    for (first, side) in [0, MOST_SETS].into_iter().zip(sides) {
+        write_side(lent, first, side);
+    }
+}
+
+/// Writes one side, its row 0 and set 0 standing at `first`.
+pub fn write_side(lent: &mut Lent, first: usize, side: &Side) {
+    for (number, row) in side.rows.iter().enumerate() {
+        let at = (first + number) * SYMBOLS;
+        for (symbol, next) in row.iter().enumerate() {
+            lent.rows[at + symbol] = *next as u8;
+        }
+    }
+    lent.sets[first..first + side.sets.len()].copy_from_slice(&side.sets);
+}
+
+/// "Scratch byte i, for i from 0 to n, is the number of the right set at i."
+pub fn write_scratch(lent: &mut Lent, book: &Book, tape: &[u8], left: &Side, right: &Side, reading: Reading) {
+    let mut numbers: Vec<usize> = match reading.is(Wrong::ScratchLeft) {
+        false => right_sets(book, tape, reading).iter().map(|set| right.number(*set)).collect(),
+        true => left_sets(book, tape, reading).iter().map(|set| left.number(*set)).collect(),
+    };
+    if reading.is(Wrong::ScratchShifted) {
+        numbers.rotate_left(1);
+    }
+    if reading.is(Wrong::ScratchWithoutEnd) {
+        numbers.pop();
+    }
+    for (byte, number) in lent.scratch.iter_mut().zip(numbers) {
+        *byte = number as u8;
+    }
+}

@@ -1,0 +1,102 @@
+//! The commands through pipes, against the reference itself with and without a wrong reading.
+
+use std::process::{Command, Output};
+
+use second::answer::Answer;
+use second::call::{Call, Operation, Request};
+use second::generate::calls::call;
+use second::operations::answer;
+use second::reading::Reading;
+
+const SECOND: &str = env!("CARGO_BIN_EXE_second");
+
+fn second(arguments: &[&str]) -> Output {
+    Command::new(SECOND).args(arguments).output().expect("the second program runs")
+}
+
+fn printed(output: &Output) -> String {
+    String::from_utf8_lossy(&output.stdout).into_owned()
+}
+
+fn last_line(output: &Output) -> String {
+    printed(output).lines().last().unwrap_or_default().to_string()
+}
+
+#[test]
+fn requests_and_answers_are_read_as_they_were_written() {
+    for number in 0..900 {
+        let call = call(4, number);
+        let bytes = call.to_bytes();
+        let mut rest = &bytes[..];
+        let Ok(Request::Call(read)) = Call::read(&mut rest) else { panic!("call {number} is no request") };
+        assert!(rest.is_empty() && *read == call, "call {number}");
+        let answer = answer(&call, Reading::TRUE);
+        let answer_bytes = answer.to_bytes();
+        let mut rest = &answer_bytes[..];
+        assert_eq!(Answer::read(&call, &mut rest).expect("an answer"), answer);
+        assert!(rest.is_empty(), "call {number}");
+    }
+}
+
+#[test]
+fn bad_requests_are_refused() {
+    let refused = |bytes: &[u8]| matches!(Call::read(&mut &bytes[..]), Ok(Request::Refused));
+    let good = Call::new(Operation::Check).to_bytes();
+    assert!(!refused(&good));
+    assert!((1..good.len()).all(|length| refused(&good[..length])), "cut short");
+    assert!([0, 6, 255].iter().all(|operation| refused(&[&[*operation], &good[1..]].concat())), "another operation");
+    for length in 0..8 {
+        let mut long = good.clone();
+        long[2 + 4 * length..][..4].copy_from_slice(&65_537u32.to_le_bytes());
+        assert!(refused(&long), "length {length}");
+    }
+    assert!(matches!(Call::read(&mut &[][..]), Ok(Request::Ended)));
+}
+
+#[test]
+fn check_agrees_with_itself() {
+    let output = second(&["check", "5", "600", "--probe", &format!("{SECOND} serve")]);
+    assert!(output.status.success(), "{}", printed(&output));
+    assert_eq!(last_line(&output), "600 passed, 0 failed");
+}
+
+#[test]
+fn check_finds_and_repeats_a_small_case() {
+    let probe = format!("{SECOND} serve --wrong longest-focus-first");
+    let output = second(&["check", "5", "600", "--probe", &probe]);
+    assert!(!output.status.success());
+    assert!(last_line(&output).ends_with(" passed, 1 failed"));
+    let text = printed(&output);
+    let command = text.lines().find(|line| line.starts_with("repeat it with: ")).expect("a command");
+    let request = command.split(' ').next_back().expect("the request");
+    assert!(request.len() < 250, "a case of {} digits is not small: {text}", request.len());
+    let again = second(&["one", request, "--probe", &probe]);
+    assert!(!again.status.success());
+    assert!(printed(&again).contains("differs: "));
+    assert!(second(&["one", request, "--probe", &format!("{SECOND} serve")]).status.success());
+}
+
+#[test]
+fn check_notices_a_probe_that_stops() {
+    for probe in ["true", "false", "head -c 100000"] {
+        let output = second(&["check", "5", "50", "--probe", probe]);
+        assert!(!output.status.success(), "{probe}");
+        assert!(last_line(&output).ends_with(" passed, 1 failed"), "{probe}: {}", printed(&output));
+    }
+    assert!(!second(&["check", "5", "50", "--probe", "no-such-command"]).status.success());
+}
+
+#[test]
+fn program_agrees_with_itself_and_repeats_a_small_input() {
+    let output = second(&["program", "5", "300", "--pads", &format!("{SECOND} pads")]);
+    assert!(output.status.success(), "{}", printed(&output));
+    assert_eq!(last_line(&output), "300 passed, 0 failed");
+    let pads = format!("{SECOND} pads --wrong account-of-5999");
+    let output = second(&["program", "5", "300", "--pads", &pads]);
+    assert!(!output.status.success());
+    let text = printed(&output);
+    let command = text.lines().find(|line| line.starts_with("repeat it with: ")).expect("a command");
+    let input = command.split(' ').next_back().expect("the input");
+    assert!(!second(&["tapes", input, "--pads", &pads]).status.success());
+    assert!(second(&["tapes", input, "--pads", &format!("{SECOND} pads")]).status.success());
+}

@@ -1,0 +1,216 @@
+//! The reference against document 01 read as literally as can be: every run followed on its own, nothing remembered.
+//! Slow, so small tapes alone.
+
+use second::answer::Answer;
+use second::book::{self, Book};
+use second::call::{Call, Lengths, Operation};
+use second::chance::Chance;
+use second::generate::alphabet::Alphabet;
+use second::generate::{rules, tapes};
+use second::operations::answer;
+use second::reading::Reading;
+use second::record::{FOCUS, LEFT, RIGHT};
+use second::{draft, sets};
+
+const BOOKS: u64 = 1500;
+const LONGEST: usize = 7;
+
+/// Whether some run from this state over this word ends in a state that is wanted.
+fn leads(book: &Book, state: usize, word: &[u8], wanted: &dyn Fn(usize) -> bool) -> bool {
+    let Some((symbol, rest)) = word.split_first() else { return wanted(state) };
+    let open = |arc: &&book::Arc| arc.from == state && (arc.lowest..=arc.highest).contains(symbol);
+    book.arcs.iter().filter(open).any(|arc| leads(book, arc.to, rest, wanted))
+}
+
+fn states(book: &Book, part: u8) -> Vec<usize> {
+    (0..book.states.len()).filter(|state| book.states[*state].part == part).collect()
+}
+
+fn in_language(book: &Book, rule: usize, part: u8, word: &[u8]) -> bool {
+    let of_rule = states(book, part).into_iter().filter(|state| book.states[*state].rule == rule);
+    let mut starts = of_rule.filter(|state| book.states[*state].start);
+    starts.any(|start| leads(book, start, word, &|state| book.states[state].accept))
+}
+
+fn right_holds(book: &Book, rule: usize, tape: &[u8], at: usize) -> bool {
+    (at..=tape.len()).any(|end| in_language(book, rule, RIGHT, &tape[at..end]))
+}
+
+/// Start, end and rule of every candidate, in the account's order.
+fn candidates(book: &Book, tape: &[u8]) -> Vec<(usize, usize, usize)> {
+    let mut found = Vec::new();
+    for i in 0..tape.len() {
+        for j in i + 1..=tape.len() {
+            for rule in 0..book.words.len() {
+                let left = (0..=i).any(|begin| in_language(book, rule, LEFT, &tape[begin..i]));
+                if left && in_language(book, rule, FOCUS, &tape[i..j]) && right_holds(book, rule, tape, j) {
+                    found.push((i, j, rule));
+                }
+            }
+        }
+    }
+    found
+}
+
+fn taken(candidates: &[(usize, usize, usize)]) -> Vec<(usize, usize, usize)> {
+    let mut taken: Vec<(usize, usize, usize)> = Vec::new();
+    loop {
+        let from = taken.last().map_or(0, |(_, end, _)| *end);
+        let Some(start) = candidates.iter().map(|(start, _, _)| *start).filter(|start| *start >= from).min() else {
+            return taken;
+        };
+        let here = candidates.iter().filter(|(at, _, _)| *at == start);
+        let longest = here.clone().map(|(_, end, _)| *end).max().expect("a candidate start");
+        let rule = here.filter(|(_, end, _)| *end == longest).map(|(_, _, rule)| *rule).min().expect("a rule");
+        taken.push((start, longest, rule));
+    }
+}
+
+/// Output symbols with their origins.
+fn output(book: &Book, tape: &[u8], taken: &[(usize, usize, usize)]) -> Vec<(u8, u16)> {
+    let mut output = Vec::new();
+    for (position, symbol) in tape.iter().enumerate() {
+        if let Some((start, _, rule)) = taken.iter().find(|(start, end, _)| (*start..*end).contains(&position)) {
+            if position == *start {
+                output.extend(book.words[*rule].iter().map(|symbol| (*symbol, *start as u16)));
+            }
+        } else {
+            output.push((*symbol, position as u16));
+        }
+    }
+    output
+}
+
+fn line(candidate: (usize, usize, usize), taken: &[(usize, usize, usize)]) -> [u16; 5] {
+    let (start, end, rule) = candidate;
+    let same_start = taken.iter().find(|(at, _, _)| *at == start);
+    let around = taken.iter().find(|(at, to, _)| *at < start && start < *to);
+    let (verdict, deciding) = match (same_start, around) {
+        (Some(taken), None) if *taken == candidate => (0, start),
+        (Some((_, longest, _)), None) if end < *longest => (1, start),
+        (Some((_, longest, lower)), None) if end == *longest && *lower < rule => (2, start),
+        (None, Some((deciding, _, _))) => (3, *deciding),
+        _ => panic!("a candidate has exactly one verdict"),
+    };
+    [rule as u16, start as u16, end as u16, verdict, deciding as u16]
+}
+
+fn sum(states: impl Iterator<Item = usize>) -> u64 {
+    states.map(|state| 1u64 << state).sum()
+}
+
+fn left_set(book: &Book, tape: &[u8], i: usize) -> u64 {
+    let starts: Vec<usize> = states(book, LEFT).into_iter().filter(|state| book.states[*state].start).collect();
+    let reached = |wanted: usize| {
+        (0..=i).any(|begin| starts.iter().any(|start| leads(book, *start, &tape[begin..i], &|state| state == wanted)))
+    };
+    sum(states(book, LEFT).into_iter().filter(|state| reached(*state)))
+}
+
+fn right_set(book: &Book, tape: &[u8], i: usize) -> u64 {
+    let accepts = |state: usize, k: usize| leads(book, state, &tape[i..k], &|state| book.states[state].accept);
+    let right = states(book, RIGHT).into_iter().filter(|state| (i..=tape.len()).any(|k| accepts(*state, k)));
+    let rule = |state: usize| book.states[state].rule;
+    let fits = |state: &usize| (i..=tape.len()).any(|k| accepts(*state, k) && right_holds(book, rule(*state), tape, k));
+    sum(right) | sum(states(book, FOCUS).into_iter().filter(fits))
+}
+
+fn answered(operation: Operation, book: &[u8], tape: &[u8]) -> Answer {
+    let mut call = Call::new(operation);
+    call.book = book.to_vec();
+    call.tape = tape.to_vec();
+    call.lengths = Lengths { rows: 8192, sets: 512, scratch: LONGEST + 1, out: 64, origins: 64, lines: 5 * 16 * 28 };
+    answer(&call, Reading::TRUE)
+}
+
+/// The one refusal that a random valid book can meet.
+fn has_too_many_sets(answer: &Answer) -> bool {
+    assert!(matches!(answer.reply, 0 | 13 | 14));
+    answer.reply != 0
+}
+
+/// A random book with a tape of at most `LONGEST` symbols.
+fn drawn(number: u64) -> (Vec<u8>, Vec<u8>) {
+    let chance = &mut Chance::of(77, number);
+    let alphabet = Alphabet::of(chance);
+    let rules = rules::rules(&alphabet, chance);
+    let mut tape = tapes::tape(&rules, &alphabet, chance);
+    tape.truncate(LONGEST);
+    (draft::mixed_records(&rules, chance).concat(), tape)
+}
+
+#[test]
+fn candidates_taken_output_and_account() {
+    let (mut with_candidates, mut with_several) = (0, 0);
+    for number in 0..BOOKS {
+        let (bytes, tape) = drawn(number);
+        let book = book::read(&bytes, Reading::TRUE).expect("a valid book");
+        let candidates = candidates(&book, &tape);
+        let taken = taken(&candidates);
+        let output = output(&book, &tape, &taken);
+        let lines: Vec<u16> = candidates.iter().flat_map(|candidate| line(*candidate, &taken)).collect();
+        let rewritten = answered(Operation::Rewrite, &bytes, &tape);
+        if has_too_many_sets(&rewritten) {
+            continue;
+        }
+        assert_eq!(rewritten.counts, [output.len() as u64, taken.len() as u64, 0, 0], "book {number}");
+        let pairs: Vec<(u8, u16)> = rewritten.lent.out.into_iter().zip(rewritten.lent.origins).collect();
+        assert_eq!(pairs[..output.len()], output, "book {number}");
+        let accounted = answered(Operation::Account, &bytes, &tape);
+        assert_eq!(accounted.counts[0] as usize, candidates.len(), "book {number}");
+        assert_eq!(accounted.lent.lines[..lines.len()], lines, "book {number}");
+        with_candidates += u64::from(!candidates.is_empty());
+        with_several += u64::from(candidates.len() > taken.len());
+    }
+    assert!(with_candidates > BOOKS / 3 && with_several > BOOKS / 6, "{with_candidates} {with_several}");
+}
+
+#[test]
+fn sets_rows_and_scratch() {
+    for number in 0..BOOKS {
+        let (bytes, tape) = drawn(number);
+        let book = book::read(&bytes, Reading::TRUE).expect("a valid book");
+        let left: Vec<u64> = (0..=tape.len()).map(|i| left_set(&book, &tape, i)).collect();
+        let right: Vec<u64> = (0..=tape.len()).map(|i| right_set(&book, &tape, i)).collect();
+        assert_eq!(sets::left_sets(&book, &tape, Reading::TRUE), left, "book {number}");
+        assert_eq!(sets::right_sets(&book, &tape, Reading::TRUE), right, "book {number}");
+        let answer = answered(Operation::Rewrite, &bytes, &tape);
+        if has_too_many_sets(&answer) {
+            continue;
+        }
+        let scratch = answer.lent.scratch.iter().map(|number| answer.lent.sets[256 + *number as usize]);
+        assert!(scratch.zip(&right).all(|(numbered, set)| numbered == *set), "book {number}");
+        follow_rows(&answer, 0, tape.iter().copied(), left.iter().copied());
+        follow_rows(&answer, 256, tape.iter().rev().copied(), right.iter().rev().copied());
+    }
+}
+
+/// Following the rows of a side over the tape must meet the sets in turn, beginning with number 0.
+fn follow_rows(answer: &Answer, first: usize, symbols: impl Iterator<Item = u8>, mut sets: impl Iterator<Item = u64>) {
+    let mut number = 0;
+    assert_eq!(Some(answer.lent.sets[first]), sets.next());
+    for (symbol, set) in symbols.zip(sets) {
+        number = answer.lent.rows[(first + number) * 16 + symbol as usize] as usize;
+        assert_eq!(answer.lent.sets[first + number], set);
+    }
+}
+
+/// "the next set not met before gets the next number": read row by row, new numbers come up in order.
+#[test]
+fn numbers_come_up_in_order() {
+    for number in 0..BOOKS {
+        let (bytes, _) = drawn(number);
+        let answer = answered(Operation::Build, &bytes, &[]);
+        for side in [0, 1] {
+            let count = answer.counts[side] as usize;
+            let rows = &answer.lent.rows[side * 4096..][..count * 16];
+            let last = rows.iter().fold(0, |met, next| {
+                assert!(*next as usize <= met + 1, "book {number}");
+                met.max(*next as usize)
+            });
+            assert!(count == 0 || last + 1 == count, "book {number}");
+            let sets = &answer.lent.sets[side * 256..][..count];
+            assert!((1..count).all(|at| !sets[..at].contains(&sets[at])), "book {number}");
+        }
+    }
+}

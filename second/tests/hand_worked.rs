@@ -1,0 +1,130 @@
+//! The hand-worked table of document 01, the account of case 8, and the program's example.
+
+use second::answer::Answer;
+use second::call::{Call, Lengths, Operation};
+use second::operations::answer;
+use second::reading::Reading;
+use second::{hand, hex, house, program};
+
+/// A call with room for everything.
+fn call(operation: Operation, book: &[u8], tape: &[u8]) -> Call {
+    let mut call = Call::new(operation);
+    call.fill = 0xee;
+    call.book = book.to_vec();
+    call.tape = tape.to_vec();
+    call.lengths = Lengths { rows: 8192, sets: 512, scratch: tape.len() + 1, out: 50, origins: 50, lines: 100 };
+    call
+}
+
+fn answered(operation: Operation, book: &[u8], tape: &[u8]) -> Answer {
+    answer(&call(operation, book, tape), Reading::TRUE)
+}
+
+fn digits(tape: &str) -> Vec<u8> {
+    tape.chars().map(|digit| digit.to_digit(16).expect("a hex digit") as u8).collect()
+}
+
+/// One row of the table: output and origins, and nothing written past them.
+fn works_out(number: usize, book: &[u8], tape: &[u8], output: &[u8], origins: &[u16]) {
+    let answer = answered(Operation::Rewrite, book, tape);
+    assert_eq!(answer.reply, 0, "case {number}");
+    assert_eq!(answer.counts[0] as usize, output.len(), "case {number}");
+    assert_eq!(hex::shown(&answer.lent.out[..output.len()]), hex::shown(output), "case {number}");
+    assert_eq!(&answer.lent.origins[..output.len()], origins, "case {number}");
+    assert!(answer.lent.out[output.len()..].iter().all(|symbol| *symbol == 0xee), "case {number}");
+    assert!(answer.lent.origins[output.len()..].iter().all(|origin| *origin == 0xeeee), "case {number}");
+}
+
+#[test]
+fn cases_1_to_11() {
+    let house = house::book();
+    let of_house: [(&str, &str, &[u16]); 7] = [
+        ("12400", "1a00", &[0, 1, 3, 4]),
+        ("023345", "085", &[0, 1, 5]),
+        ("240", "240", &[0, 1, 2]),
+        ("2400", "900", &[0, 2, 3]),
+        ("1242400", "1a900", &[0, 1, 3, 5, 6]),
+        ("24245", "2485", &[0, 1, 2, 4]),
+        ("", "", &[]),
+    ];
+    for (at, (tape, output, origins)) in of_house.into_iter().enumerate() {
+        works_out(at + 1, &house, &digits(tape), &digits(output), origins);
+    }
+    let of_letters: [(Vec<u8>, &str, &str, &[u16]); 4] = [
+        (hand::p(), "aaaaaabaaab", "aAbaAb", &[0, 1, 6, 7, 8, 10]),
+        (hand::q(), "baaaab", "bAab", &[0, 1, 4, 5]),
+        (hand::s(), "xyzzxxyz", "xzxz", &[0, 3, 4, 7]),
+        (hand::s(), "xyzzxxyzz", "xzxzz", &[0, 3, 4, 7, 8]),
+    ];
+    for (at, (book, tape, output, origins)) in of_letters.into_iter().enumerate() {
+        works_out(at + 8, &book, &hand::tape(tape), &hand::tape(output), origins);
+    }
+}
+
+#[test]
+fn nine_lines_of_case_8() {
+    let answer = answered(Operation::Account, &hand::p(), &hand::tape("aaaaaabaaab"));
+    let lines: [[u16; 5]; 9] = [
+        [0, 1, 3, 1, 1],
+        [0, 1, 4, 1, 1],
+        [0, 1, 6, 0, 1],
+        [0, 2, 4, 3, 1],
+        [0, 2, 6, 3, 1],
+        [0, 3, 6, 3, 1],
+        [0, 4, 6, 3, 1],
+        [1, 5, 7, 3, 1],
+        [0, 8, 10, 0, 8],
+    ];
+    assert_eq!((answer.reply, answer.counts), (0, [9, 0, 0, 0]));
+    assert_eq!(answer.lent.lines[..45], lines.concat());
+    assert!(answer.lent.lines[45..].iter().all(|word| *word == 0xeeee));
+}
+
+#[test]
+fn house_book_has_its_148_bytes() {
+    let book = house::book();
+    assert_eq!(book.len(), 148);
+    assert_eq!(answered(Operation::Check, &book, &[]).counts, [3, 19, 12, 0]);
+    assert_eq!(answered(Operation::Build, &book, &[]).counts[0], 2, "two left sets");
+}
+
+#[test]
+fn program_prints_the_example() {
+    let printed = "W 4 1 1a00\nO 0 1 3 4\nC 0 1 3 0 1\nC 2 1 3 2 1\n";
+    assert_eq!(program::run(b"12400", Reading::TRUE), printed);
+    assert_eq!(program::run(b"12400\n", Reading::TRUE), printed);
+}
+
+#[test]
+fn program_at_its_edges() {
+    let prints = |input: &[u8], printed: &str| assert_eq!(program::run(input, Reading::TRUE), printed, "{input:?}");
+    prints(b"", "");
+    prints(b"\n", "W 0 0 -\nO -\n");
+    prints(b"\n\n", "W 0 0 -\nO -\nW 0 0 -\nO -\n");
+    prints(b"0\r\n", "X 10 1\n");
+    prints(b"0A\n5", "X 10 1\nW 1 0 5\nO 0\n");
+    prints(&[b'0'; 4097], "X 9 0\n");
+    prints(&[b'z'; 4097], "X 9 0\n");
+    // One candidate for each "245": 1,200 lines fit into 6,000 words, 1,201 do not.
+    let fits = program::run(&b"245".repeat(1200), Reading::TRUE);
+    assert_eq!(fits.lines().filter(|line| line.starts_with('C')).count(), 1200);
+    let short = program::run(&b"245".repeat(1201), Reading::TRUE);
+    assert!(short.starts_with("W 2402 1201 85") && short.ends_with("\nX 15 6005\n"));
+    assert_eq!(short.lines().count(), 3);
+}
+
+#[test]
+fn show_hands_back_stretches() {
+    let mut call = Call::new(Operation::Show);
+    call.tape = hand::tape("aaaaaabaaab");
+    call.account = vec![0, 8, 10, 0, 8, 0, 5, 5, 0, 0, 0, 10, 12, 0, 0, 1, 10, 11, 0];
+    let shown = |line: u32| {
+        let answer = answer(&Call { line, ..call.clone() }, Reading::TRUE);
+        (answer.place, answer.counts[0], answer.part)
+    };
+    assert_eq!(shown(0), (8, 2, hand::tape("aa")));
+    // Start not below end, end past the tape, a line cut short, no such line, numbers that could wrap around.
+    for line in [1, 2, 3, 4, 5, 858_993_459, 858_993_460, u32::MAX] {
+        assert_eq!(shown(line), (0, 0, Vec::new()), "line {line}");
+    }
+}

@@ -1,0 +1,109 @@
+//! Sizes at every limit and one past it.
+
+use second::call::{Call, Lengths, Operation};
+use second::chance::Chance;
+use second::draft::{self, Part, Rule};
+use second::generate::calls::call;
+use second::generate::full;
+use second::generate::limits::LIMITS;
+use second::operations::answer;
+use second::reading::Reading;
+use second::record::{self, ARC, RULE, STATE};
+use second::tally::{Tally, WHOLE_RUN};
+
+fn built(rule: Rule) -> (u8, [u64; 4]) {
+    let mut call = Call::new(Operation::Build);
+    call.book = draft::book(&[rule]);
+    call.lengths = Lengths { rows: 8192, sets: 512, ..Lengths::default() };
+    let answer = answer(&call, Reading::TRUE);
+    (answer.reply, answer.counts)
+}
+
+#[test]
+fn eight_places_are_built_and_nine_refused() {
+    let any = Part::any;
+    assert_eq!(built(Rule::idle(full::places_before(8), any())), (0, [256, 1, 0, 0]));
+    assert_eq!(built(Rule::idle(full::places_before(9), any())), (13, [0; 4]));
+    assert_eq!(built(Rule::idle(any(), full::places_before(8).mirrored())), (0, [1, 256, 0, 0]));
+    assert_eq!(built(Rule::idle(any(), full::places_before(9).mirrored())), (14, [0; 4]));
+}
+
+#[test]
+fn the_257th_set_is_refused() {
+    for sets in 250..=262 {
+        let part = full::counters(sets, 16, &mut Chance::of(3, sets as u64));
+        let expected = if sets <= 256 { (0, [sets as u64, 1, 0, 0]) } else { (13, [0; 4]) };
+        assert_eq!(built(Rule::idle(part.clone(), Part::any())), expected, "{sets} left sets");
+        let expected = if sets <= 256 { (0, [1, sets as u64, 0, 0]) } else { (14, [0; 4]) };
+        assert_eq!(built(Rule::idle(Part::any(), part.mirrored())), expected, "{sets} right sets");
+    }
+}
+
+#[test]
+fn tapes_of_4096_and_4097_symbols() {
+    let mut call = Call::new(Operation::Rewrite);
+    call.book = draft::book(&[Rule::new(Part::any(), Part::word(&[1]), Part::any(), &[2; 8])]);
+    call.lengths = Lengths { rows: 8192, sets: 512, scratch: 4098, out: 32_768, origins: 32_768, lines: 0 };
+    call.tape = vec![1; 4096];
+    let accepted = answer(&call, Reading::TRUE);
+    assert_eq!((accepted.reply, accepted.counts), (0, [32_768, 4096, 0, 0]));
+    assert_eq!(accepted.lent.origins[32_767], 4095);
+    call.tape.push(1);
+    let refused = answer(&call, Reading::TRUE);
+    assert_eq!((refused.reply, refused.place, refused.counts), (9, 0, [0; 4]));
+}
+
+#[test]
+fn most_candidates_are_counted() {
+    let mut call = Call::new(Operation::Account);
+    call.book = draft::book(&vec![full::every_stretch(&[]); 16]);
+    call.lengths = Lengths { rows: 8192, sets: 512, scratch: 4097, lines: 5, ..Lengths::default() };
+    call.tape = vec![0; 4096];
+    let answer = answer(&call, Reading::TRUE);
+    assert_eq!((answer.reply, answer.place), (15, 5 * 16 * (4096 * 4097 / 2)));
+}
+
+fn checked(records: &[Vec<u8>]) -> (u8, u64, [u64; 4]) {
+    let mut call = Call::new(Operation::Check);
+    call.book = records.concat();
+    let answer = answer(&call, Reading::TRUE);
+    (answer.reply, answer.place, answer.counts)
+}
+
+#[test]
+fn rules_states_and_arcs() {
+    for (kind, limit, count) in [(RULE, 16, 0), (STATE, 64, 1), (ARC, 512, 2)] {
+        let mut records = full::filled(kind, limit, &mut Chance::of(1, kind as u64));
+        let (reply, _, counts) = checked(&records);
+        assert_eq!((reply, counts[count]), (0, limit as u64));
+        let end = records.pop().expect("an end record");
+        let offset = records.concat().len() as u64;
+        records.push(match kind {
+            RULE => record::rule(&[]),
+            STATE => record::state(1, 3),
+            _ => record::arc(255, 255, 255, 255),
+        });
+        records.push(end);
+        assert_eq!(checked(&records), (3, offset, [0; 4]), "3 comes before 5, 6 and 7");
+    }
+}
+
+/// Every limit of the generator gives an acceptance and a refusal before long (the slowest ones refuse alone).
+#[test]
+fn limits_are_met_on_both_sides() {
+    for (name, weight, maker) in LIMITS.iter().filter(|(_, weight, _)| *weight > 10) {
+        let replies: Vec<u8> = (0..60)
+            .map(|number| answer(&maker(&mut Chance::of(9, number)).within_limits(), Reading::TRUE).reply)
+            .collect();
+        assert!(replies.contains(&0) || *name == "longest book sent", "{name} ({weight}) is never accepted");
+        assert!(replies.iter().any(|reply| *reply != 0), "{name} is never refused");
+    }
+}
+
+#[test]
+fn a_whole_run_meets_every_reply_of_every_operation() {
+    let mut tally = Tally::default();
+    (0..WHOLE_RUN).for_each(|number| tally.add(&answer(&call(2, number), Reading::TRUE)));
+    println!("{}", tally.table());
+    assert_eq!(tally.never_met(), Vec::<String>::new());
+}

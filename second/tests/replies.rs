@@ -1,0 +1,196 @@
+//! Each reply, its place, and what it leaves in the buffers.
+
+use second::answer::{Answer, Lent};
+use second::call::{Call, Lengths, Operation};
+use second::draft::{self, Part, Rule};
+use second::generate::full;
+use second::operations::answer;
+use second::reading::Reading;
+use second::record::{arc, end, rule, state};
+
+fn checked(book: Vec<u8>) -> (u8, u64) {
+    let mut call = Call::new(Operation::Check);
+    call.book = book;
+    let answer = answer(&call, Reading::TRUE);
+    assert!(answer.reply == 0 || answer.counts == [0; 4], "a refusal returns 0 for its counts");
+    (answer.reply, answer.place)
+}
+
+/// One rule whose left part has states 0 and 1.
+fn begun() -> Vec<Vec<u8>> {
+    vec![rule(&[5]), state(0, 1), state(0, 2)]
+}
+
+/// The book that goes on after `begun` with these records (16 bytes later) and an end.
+fn with(records: &[Vec<u8>]) -> Vec<u8> {
+    [begun(), records.to_vec(), vec![end()]].concat().concat()
+}
+
+#[test]
+fn replies_of_a_book() {
+    assert_eq!(checked(with(&[])), (0, 0));
+    assert_eq!(checked(vec![]), (1, 0));
+    assert_eq!(checked(begun().concat()), (1, 16), "a missing kind stands at the book's length");
+    assert_eq!(checked([begun().concat(), vec![3, 0, 1]].concat()), (1, 16));
+    assert_eq!(checked(vec![1]), (1, 0));
+    assert_eq!(checked(vec![2]), (1, 0), "a cut body comes before 4");
+    assert_eq!(checked(vec![0]), (2, 0));
+    assert_eq!(checked(vec![5, 9, 9]), (2, 0));
+    assert_eq!(checked(with(&[vec![255]])), (2, 16));
+    assert_eq!(checked(state(7, 7)), (4, 0), "4 comes before 5");
+    assert_eq!(checked(arc(9, 9, 9, 9)), (4, 0));
+    assert_eq!(checked(vec![4, 4, 4]), (4, 0), "4 comes before 8");
+    assert_eq!(checked(with(&[]).into_iter().chain([4]).collect()), (8, 17));
+    assert_eq!(checked(with(&[state(1, 3)])), (7, 16));
+    assert_eq!(checked(with(&[state(2, 3)])), (0, 0));
+}
+
+#[test]
+fn replies_of_fields_and_names() {
+    let after_rule = |record: Vec<u8>| checked(with(&[record]));
+    let mut long = rule(&[1; 8]);
+    assert_eq!(after_rule(long.clone()), (0, 0));
+    long[1] = 9;
+    assert_eq!(after_rule(long), (5, 16));
+    let mut unused = rule(&[1, 2]);
+    unused[4] = 1;
+    assert_eq!(after_rule(unused), (5, 16));
+    for bad in
+        [rule(&[16]), state(3, 0), state(0, 4), arc(0, 0, 16, 1), arc(0, 16, 16, 1), arc(0, 3, 2, 1), arc(99, 3, 2, 1)]
+    {
+        assert_eq!(after_rule(bad.clone()), (5, 16), "{bad:?}");
+    }
+    assert_eq!(after_rule(arc(0, 0, 15, 1)), (0, 0));
+    for bad in [arc(0, 0, 0, 2), arc(2, 0, 0, 0), arc(64, 0, 0, 0), arc(0, 0, 0, 255)] {
+        assert_eq!(after_rule(bad.clone()), (6, 16), "{bad:?}");
+    }
+    assert_eq!(checked(with(&[state(1, 1), arc(0, 0, 0, 2)])), (6, 19), "two parts");
+    assert_eq!(checked(with(&[rule(&[]), arc(0, 0, 0, 1)])), (6, 26), "an earlier rule");
+    assert_eq!(checked(with(&[arc(0, 0, 0, 2), state(0, 0)])), (6, 16), "a state not yet given");
+}
+
+/// A book of one rule: symbol 1 to `word`, between any contexts.
+fn book(word: &[u8]) -> Vec<u8> {
+    draft::book(&[Rule::new(Part::any(), Part::word(&[1]), Part::any(), word)])
+}
+
+fn call(operation: Operation, book: Vec<u8>, tape: &[u8]) -> Call {
+    let mut call = Call::new(operation);
+    call.fill = 0x5a;
+    call.book = book;
+    call.tape = tape.to_vec();
+    call.lengths = Lengths { rows: 8195, sets: 514, scratch: tape.len() + 3, ..Lengths::default() };
+    match operation {
+        Operation::Rewrite => (call.lengths.out, call.lengths.origins) = (9, 9),
+        _ => call.lengths.lines = 9,
+    }
+    call
+}
+
+/// The answer must be this refusal with no buffer changed.
+fn refused_untouched(call: &Call, reply: u8, place: u64) {
+    let answer = answer(call, Reading::TRUE);
+    assert_eq!((answer.reply, answer.place, answer.counts), (reply, place, [0; 4]));
+    assert_eq!(answer.lent, Lent::before(call), "reply {reply} changes no buffer");
+}
+
+#[test]
+fn replies_9_to_12_change_nothing_and_come_in_order() {
+    for operation in [Operation::Rewrite, Operation::Account] {
+        let mut faulty = call(operation, book(&[]), &[vec![0; 4096], vec![16]].concat());
+        faulty.lengths = Lengths { rows: 8191, scratch: 4097, ..faulty.lengths };
+        refused_untouched(&faulty, 9, 0);
+        faulty.tape = vec![0, 1, 16, 99];
+        faulty.lengths.scratch = 4;
+        refused_untouched(&faulty, 10, 2);
+        faulty.tape = vec![0, 1, 2, 3];
+        refused_untouched(&faulty, 11, 0);
+        faulty.lengths = Lengths { rows: 8192, sets: 511, ..faulty.lengths };
+        refused_untouched(&faulty, 11, 0);
+        faulty.lengths.sets = 512;
+        refused_untouched(&faulty, 12, 0);
+        faulty.book = vec![9];
+        refused_untouched(&faulty, 2, 0);
+    }
+    let mut building = call(Operation::Build, book(&[]), &[]);
+    building.lengths.sets = 0;
+    refused_untouched(&building, 11, 0);
+}
+
+/// The workspace parts are 0, and the three rows and two sets past them keep their values, as all the rest does.
+fn workspace_is_cleared(call: &Call, answer: &Answer) {
+    let mut expected = Lent::before(call);
+    expected.rows[..8192].fill(0);
+    expected.sets[..512].fill(0);
+    assert_eq!(answer.lent, expected);
+}
+
+#[test]
+fn replies_13_and_14_clear_the_workspace() {
+    let (left, right) = (full::places_before(9), full::places_before(9).mirrored());
+    let books = [
+        (13, Rule::idle(left.clone(), Part::any())),
+        (14, Rule::idle(Part::any(), right.clone())),
+        (13, Rule::idle(left, right)),
+    ];
+    for (reply, rule) in books {
+        for operation in [Operation::Build, Operation::Rewrite, Operation::Account] {
+            let mut call = call(operation, draft::book(std::slice::from_ref(&rule)), &[1, 2]);
+            if operation == Operation::Build {
+                call.tape.clear();
+                call.lengths.scratch = 0;
+            }
+            let answer = answer(&call, Reading::TRUE);
+            assert_eq!((answer.reply, answer.place, answer.counts), (reply, 0, [0; 4]));
+            workspace_is_cleared(&call, &answer);
+        }
+    }
+}
+
+#[test]
+fn reply_15_leaves_workspace_and_scratch_as_acceptance_does() {
+    let rewriting = call(Operation::Rewrite, book(&[7, 7, 7]), &[1, 0, 1]);
+    let accounting = call(Operation::Account, book(&[7, 7, 7]), &[1, 0, 1]);
+    let lent = |call: &Call, out, origins, lines| {
+        let lengths = Lengths { out, origins, lines, ..call.lengths };
+        answer(&Call { lengths, ..call.clone() }, Reading::TRUE)
+    };
+    let accepted = lent(&rewriting, 7, 7, 0);
+    assert_eq!((accepted.reply, accepted.counts), (0, [7, 2, 0, 0]));
+    for (out, origins) in [(6, 7), (7, 6), (0, 0), (9, 0)] {
+        let refused = lent(&rewriting, out, origins, 0);
+        assert_eq!((refused.reply, refused.place, refused.counts), (15, 7, [0; 4]));
+        same_workspace_and_scratch(&refused, &accepted);
+        assert!(refused.lent.out.iter().all(|symbol| *symbol == 0x5a));
+        assert!(refused.lent.origins.iter().all(|origin| *origin == 0x5a5a));
+    }
+    let accepted = lent(&accounting, 0, 0, 10);
+    assert_eq!((accepted.reply, accepted.counts), (0, [2, 0, 0, 0]));
+    let refused = lent(&accounting, 0, 0, 9);
+    assert_eq!((refused.reply, refused.place, refused.counts), (15, 10, [0; 4]));
+    same_workspace_and_scratch(&refused, &accepted);
+    assert!(refused.lent.lines.iter().all(|word| *word == 0x5a5a));
+}
+
+fn same_workspace_and_scratch(one: &Answer, other: &Answer) {
+    assert_eq!(one.lent.rows, other.lent.rows);
+    assert_eq!(one.lent.sets, other.lent.sets);
+    assert_eq!(one.lent.scratch, other.lent.scratch);
+}
+
+/// A workspace small enough to be worked by hand: rule of symbol 1 between any contexts, states 0 left, 1 and 2
+/// focus, 3 right.
+#[test]
+fn workspace_worked_by_hand() {
+    let call = call(Operation::Rewrite, book(&[]), &[1, 0, 1]);
+    let answer = answer(&call, Reading::TRUE);
+    // Left: state 0 always. Right: 3 always; 2 because the right language holds everywhere; 1 if a 1 follows.
+    assert_eq!(answer.lent.sets[0], 0b0001);
+    assert_eq!(answer.lent.sets[256..259], [0b1100, 0b1110, 0]);
+    assert_eq!(answer.lent.rows[..8192].iter().filter(|number| **number != 0).count(), 2);
+    assert_eq!(answer.lent.rows[4096 + 1], 1);
+    assert_eq!(answer.lent.rows[4096 + 16 + 1], 1);
+    assert_eq!(answer.lent.scratch, [1, 0, 1, 0, 0x5a, 0x5a]);
+    assert_eq!(answer.lent.rows[8192..], [0x5a; 3]);
+    assert_eq!(answer.lent.sets[512..], [0x5a5a_5a5a_5a5a_5a5a; 2]);
+}
