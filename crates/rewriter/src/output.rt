@@ -211,7 +211,7 @@ fn place(
     let t = taken_at(book, places, masks, rules, tape, sets, scratch, i, left);
     let stop = t.end;
     let rule = t.rule;
-    if stop == i {
+    if stop == i { // nothing is taken here
         return keep(tape, i, out, origins, at);
     }
     let next = put_word(book, words[rule] as usize, i, out, origins, at);
