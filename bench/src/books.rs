@@ -1,0 +1,213 @@
+//! The books that are measured, made record by record.
+
+use crate::answer::ARCS;
+use crate::chance::Chance;
+
+const LEFT: u8 = 0;
+const FOCUS: u8 = 1;
+const RIGHT: u8 = 2;
+
+const NEITHER: u8 = 0;
+const START: u8 = 1;
+const ACCEPT: u8 = 2;
+const BOTH: u8 = 3;
+
+const LAST: u8 = 15;
+
+#[derive(Default)]
+struct Draft {
+    bytes: Vec<u8>,
+    states: u8,
+    arcs: usize,
+}
+
+impl Draft {
+    fn rule(&mut self, word: &[u8]) {
+        self.bytes.extend([1, word.len() as u8]);
+        self.bytes.extend(word);
+        self.bytes.extend(std::iter::repeat_n(0, 8 - word.len()));
+    }
+
+    /// The number of the new state.
+    fn state(&mut self, part: u8, flags: u8) -> u8 {
+        self.bytes.extend([2, part, flags]);
+        self.states += 1;
+        self.states - 1
+    }
+
+    /// "Any" is one state with flags 3.
+    fn any(&mut self, part: u8) {
+        self.state(part, BOTH);
+    }
+
+    fn arc(&mut self, from: u8, low: u8, high: u8, to: u8) {
+        self.bytes.extend([3, from, low, high, to]);
+        self.arcs += 1;
+    }
+
+    fn end(mut self) -> Vec<u8> {
+        self.bytes.push(4);
+        self.bytes
+    }
+
+    /// Press, any number of holds, release.
+    fn touch(&mut self) -> impl FnOnce(&mut Draft) {
+        let (start, held, released) = (self.state(FOCUS, START), self.state(FOCUS, NEITHER), self.state(FOCUS, ACCEPT));
+        move |draft| {
+            draft.arc(start, 2, 2, held);
+            draft.arc(held, 3, 3, held);
+            draft.arc(held, 4, 4, released);
+        }
+    }
+
+    fn turn(&mut self) {
+        self.rule(&[8]);
+        self.any(LEFT);
+        let arcs = self.touch();
+        let (before, pushed) = (self.state(RIGHT, START), self.state(RIGHT, ACCEPT));
+        arcs(self);
+        self.arc(before, 5, 5, pushed);
+    }
+}
+
+/// Document 01's house book: noise, turn, finish.
+pub fn house() -> Vec<u8> {
+    let mut draft = Draft::default();
+    draft.rule(&[10]);
+    let (before, rippled) = (draft.state(LEFT, START), draft.state(LEFT, ACCEPT));
+    let (start, pressed, released) =
+        (draft.state(FOCUS, START), draft.state(FOCUS, NEITHER), draft.state(FOCUS, ACCEPT));
+    draft.any(RIGHT);
+    draft.arc(before, 1, 1, rippled);
+    draft.arc(start, 2, 2, pressed);
+    draft.arc(pressed, 4, 4, released);
+    draft.turn();
+    draft.rule(&[9]);
+    draft.any(LEFT);
+    let arcs = draft.touch();
+    let (none, one, two) = (draft.state(RIGHT, START), draft.state(RIGHT, NEITHER), draft.state(RIGHT, ACCEPT));
+    arcs(&mut draft);
+    draft.arc(none, 0, 0, one);
+    draft.arc(one, 0, 0, two);
+    draft.end()
+}
+
+/// The house book's turn alone: a single rule, which foma can express.
+pub fn turn() -> Vec<u8> {
+    let mut draft = Draft::default();
+    draft.turn();
+    draft.end()
+}
+
+/// Sixteen rules that nearly every position starts, 64 states, 512 arcs.
+pub fn dense(chance: &mut Chance) -> Vec<u8> {
+    let mut draft = Draft::default();
+    for rule in 0..16u8 {
+        draft.rule(&[rule, LAST - rule]);
+        draft.any(LEFT);
+        let (start, more) = (draft.state(FOCUS, START), draft.state(FOCUS, ACCEPT));
+        draft.any(RIGHT);
+        for _ in 0..16 {
+            let (first, next) = (chance.symbol(), chance.below(8) as u8);
+            draft.arc(start, first, first, more);
+            draft.arc(more, next, next, more);
+        }
+    }
+    draft.end()
+}
+
+/// One left part that asks for a symbol above 7 exactly eight places before.
+fn eight_before(draft: &mut Draft) -> Vec<[u8; 4]> {
+    draft.state(LEFT, START);
+    let mut arcs = Vec::new();
+    for k in 0..8 {
+        let next = draft.state(LEFT, if k == 7 { ACCEPT } else { NEITHER });
+        arcs.push([next - 1, if k == 0 { 8 } else { 0 }, LAST, next]);
+    }
+    arcs
+}
+
+/// One right part that asks for a symbol above 7 exactly seven places on.
+fn seven_on(draft: &mut Draft) -> Vec<[u8; 4]> {
+    draft.state(RIGHT, START);
+    let mut arcs = Vec::new();
+    for k in 0..7 {
+        let next = draft.state(RIGHT, if k == 6 { ACCEPT } else { NEITHER });
+        arcs.push([next - 1, if k == 6 { 8 } else { 0 }, LAST, next]);
+    }
+    arcs
+}
+
+/// One rule with 256 sets a side: the left set keeps eight symbols, the right set seven and whether a focus begins.
+pub fn full_sets() -> Vec<u8> {
+    let mut draft = Draft::default();
+    draft.rule(&[0]);
+    let mut arcs = eight_before(&mut draft);
+    arcs.extend(one_symbol(&mut draft));
+    arcs.extend(seven_on(&mut draft));
+    arcs.iter().for_each(|[from, low, high, to]| draft.arc(*from, *low, *high, *to));
+    draft.end()
+}
+
+/// A focus of one symbol from 4 to 11.
+fn one_symbol(draft: &mut Draft) -> Vec<[u8; 4]> {
+    let (start, end) = (draft.state(FOCUS, START), draft.state(FOCUS, ACCEPT));
+    vec![[start, 4, 11, end]]
+}
+
+/// The same sets with 64 states and 512 arcs, all in one rule: each part stands there several times, and so does each arc.
+pub fn largest() -> Vec<u8> {
+    let mut draft = Draft::default();
+    draft.rule(&[0]);
+    let mut arcs = Vec::new();
+    (0..4).for_each(|_| arcs.extend(eight_before(&mut draft)));
+    (0..3).for_each(|_| arcs.extend(seven_on(&mut draft)));
+    arcs.extend(one_symbol(&mut draft));
+    while draft.states < 64 {
+        let looped = draft.state(LEFT, BOTH);
+        arcs.push([looped, 0, LAST, looped]);
+    }
+    arcs.iter().cycle().take(ARCS).for_each(|[from, low, high, to]| draft.arc(*from, *low, *high, *to));
+    draft.end()
+}
+
+/// Sixteen rules of which every stretch of every tape is a candidate.
+pub fn every_stretch() -> Vec<u8> {
+    let mut draft = Draft::default();
+    for rule in 0..16u8 {
+        draft.rule(&[rule]);
+        draft.any(LEFT);
+        let (start, more) = (draft.state(FOCUS, START), draft.state(FOCUS, ACCEPT));
+        draft.any(RIGHT);
+        draft.arc(start, 0, LAST, more);
+        draft.arc(more, 0, LAST, more);
+    }
+    draft.end()
+}
+
+/// The states of `no_two_alike` that accept, the classes of symbols that move them, and how many of them every set holds.
+const MOVED: usize = 61;
+const CLASSES: usize = 7;
+pub const HELD: usize = 45;
+
+/// One rule with 62 focus states and 512 arcs: each class of symbols moves all accepting states about, so that a focus
+/// set keeps its size and hardly ever comes again. Every stretch of every tape is a candidate.
+pub fn no_two_alike(chance: &mut Chance) -> Vec<u8> {
+    let mut draft = Draft::default();
+    draft.rule(&[0]);
+    draft.any(LEFT);
+    draft.any(RIGHT);
+    let start = draft.state(FOCUS, START);
+    let moved: Vec<u8> = (0..MOVED).map(|_| draft.state(FOCUS, ACCEPT)).collect();
+    for class in 0..CLASSES as u8 {
+        let high = if class as usize == CLASSES - 1 { LAST } else { 2 * class + 1 };
+        for (from, to) in chance.order(MOVED).into_iter().enumerate() {
+            draft.arc(moved[from], 2 * class, high, moved[to]);
+        }
+    }
+    let held = chance.order(MOVED);
+    for k in 0..ARCS - draft.arcs {
+        draft.arc(start, 0, LAST, moved[held[k % HELD]]);
+    }
+    draft.end()
+}

@@ -1,0 +1,69 @@
+//! foma, through its library: the turn rule of the house book as a replacement with a context, and a tape as a word of letters.
+
+use std::ffi::{c_char, c_void, CStr, CString};
+use std::ptr::null_mut;
+
+extern "C" {
+    fn fsm_get_library_version_string() -> *const c_char;
+    fn fsm_parse_regex(regex: *mut c_char, networks: *mut c_void, functions: *mut c_void) -> *mut c_void;
+    fn fsm_destroy(net: *mut c_void) -> i32;
+    fn apply_init(net: *mut c_void) -> *mut c_void;
+    fn apply_clear(handle: *mut c_void);
+    fn apply_down(handle: *mut c_void, word: *mut c_char) -> *mut c_char;
+}
+
+/// Symbol 0 is a, 1 is b, and so on: press c, hold d, release e, push f, turn i.
+const TURN: &str = "[c d* e] @-> i || _ f";
+
+fn letter(symbol: u8) -> u8 {
+    b'a' + symbol
+}
+
+pub fn version() -> String {
+    unsafe { CStr::from_ptr(fsm_get_library_version_string()) }.to_string_lossy().into_owned()
+}
+
+/// A tape as foma takes it, made before the clock runs.
+pub fn word(tape: &[u8]) -> CString {
+    CString::new(tape.iter().map(|symbol| letter(*symbol)).collect::<Vec<u8>>()).expect("letters")
+}
+
+/// The compiled rule, ready to be applied.
+pub struct Turn {
+    net: *mut c_void,
+    handle: *mut c_void,
+}
+
+impl Turn {
+    pub fn compile() -> Turn {
+        let regex = CString::new(TURN).expect("letters").into_raw();
+        unsafe {
+            let net = fsm_parse_regex(regex, null_mut(), null_mut());
+            drop(CString::from_raw(regex));
+            assert!(!net.is_null(), "foma reads the rule");
+            Turn { net, handle: apply_init(net) }
+        }
+    }
+
+    /// The output, which foma keeps until the next word.
+    pub fn apply(&mut self, word: &CStr) -> &CStr {
+        unsafe {
+            let out = apply_down(self.handle, word.as_ptr().cast_mut());
+            assert!(!out.is_null(), "foma has an output for every word");
+            CStr::from_ptr(out)
+        }
+    }
+
+    pub fn output(&mut self, tape: &[u8]) -> Vec<u8> {
+        self.apply(&word(tape)).to_bytes().iter().map(|byte| byte - letter(0)).collect()
+    }
+}
+
+impl Drop for Turn {
+    fn drop(&mut self) {
+        unsafe {
+            apply_clear(self.handle);
+            fsm_destroy(self.net);
+        }
+    }
+}

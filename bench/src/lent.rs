@@ -1,0 +1,30 @@
+//! The buffers that a call is lent.
+
+use crate::answer::{LINE, ROW_BYTES, SET_WORDS, TAPE, WORD};
+
+/// What stands in every element before a call: a contestant that leaves a byte unwritten shows.
+const OLD: u8 = 77;
+
+#[derive(PartialEq)]
+pub struct Lent {
+    pub rows: Vec<u8>,
+    pub sets: Vec<u64>,
+    pub scratch: Vec<u8>,
+    pub out: Vec<u8>,
+    pub origins: Vec<u16>,
+    pub lines: Vec<u16>,
+}
+
+impl Lent {
+    /// Enough for every call, with room for that many lines.
+    pub fn for_lines(lines: usize) -> Lent {
+        Lent {
+            rows: vec![OLD; ROW_BYTES],
+            sets: vec![OLD as u64; SET_WORDS],
+            scratch: vec![OLD; TAPE + 1],
+            out: vec![OLD; WORD * TAPE],
+            origins: vec![OLD as u16; WORD * TAPE],
+            lines: vec![OLD as u16; LINE * lines],
+        }
+    }
+}

@@ -1,0 +1,192 @@
+//! The proved library side by side with its peers, in one run on this machine; then the stack of each operation.
+//! README.md says what each row is and how to read it.
+
+mod agree;
+mod answer;
+mod books;
+mod chance;
+mod clock;
+mod depths;
+mod foma;
+mod lent;
+mod measure;
+mod pcre2;
+mod plain;
+mod proved;
+mod stack;
+mod table;
+mod tapes;
+mod walks;
+
+use answer::{RULES, TAPE};
+use chance::Chance;
+use clock::Pace;
+use depths::Input;
+use measure::Peers;
+
+const SEED: u64 = 2026;
+const POOL_TAPES: usize = 8;
+const DAMAGED: usize = 4000;
+const SHORT: usize = 64;
+
+/// The lengths of the tapes on which every stretch is a candidate of every rule, and of that for the sets that never come again.
+const HOSTILE: [usize; 2] = [256, 1024];
+const ALIKE: usize = 64;
+
+/// Every book and the tapes that it is tried on.
+struct Cases {
+    house: Vec<u8>,
+    turn: Vec<u8>,
+    dense: Vec<u8>,
+    full: Vec<u8>,
+    largest: Vec<u8>,
+    every: Vec<u8>,
+    alike: Vec<u8>,
+    pool: Vec<Vec<u8>>,
+    random: Vec<Vec<u8>>,
+    one_stretch: Vec<Vec<u8>>,
+    no_candidate: Vec<Vec<u8>>,
+}
+
+impl Cases {
+    fn new(chance: &mut Chance) -> Cases {
+        Cases {
+            house: books::house(),
+            turn: books::turn(),
+            dense: books::dense(chance),
+            full: books::full_sets(),
+            largest: books::largest(),
+            every: books::every_stretch(),
+            alike: books::no_two_alike(chance),
+            pool: (0..POOL_TAPES).map(|_| tapes::pool(chance)).collect(),
+            random: (0..POOL_TAPES).map(|_| tapes::random(TAPE, chance)).collect(),
+            one_stretch: vec![tapes::one_stretch()],
+            no_candidate: (0..POOL_TAPES).map(|_| tapes::no_candidate(chance)).collect(),
+        }
+    }
+}
+
+fn main() {
+    let short = std::env::args().nth(1).is_some_and(|word| word == "short");
+    let pace = Pace { slice: 1e-3, rounds: if short { 15 } else { 61 }, spend: if short { 1.0 } else { 4.0 } };
+    let chance = &mut Chance::new(SEED);
+    let cases = Cases::new(chance);
+    agree(&cases, chance);
+    introduce();
+    rewrite(&cases, pace);
+    build(&cases, pace);
+    account(&cases, pace, short);
+    stack(&cases);
+}
+
+/// All contestants give the same on everything that is timed.
+fn agree(cases: &Cases, chance: &mut Chance) {
+    for tape in [&cases.pool, &cases.one_stretch, &cases.no_candidate].into_iter().flatten() {
+        agree::on_whole(&cases.house, tape);
+        agree::on_whole(&cases.turn, tape);
+        agree::with_pattern(&cases.house, pcre2::HOUSE, tape);
+        agree::with_pattern(&cases.turn, pcre2::TURN, tape);
+    }
+    cases.pool.iter().for_each(|tape| agree::with_foma(tape));
+    for tape in &cases.random {
+        agree::on_whole(&cases.dense, tape);
+        agree::on_whole(&cases.full, tape);
+    }
+    agree::on_whole(&cases.largest, &cases.random[0]);
+    agree::on_whole(&cases.every, &cases.random[0][..HOSTILE[0]]);
+    agree::on_whole(&cases.alike, &cases.random[0][..ALIKE]);
+    agree::never_alike(&cases.alike, &cases.random[0]);
+    agree::on_damaged(DAMAGED, chance);
+}
+
+fn introduce() {
+    let made = std::env::var("DECK_MADE").unwrap_or_else(|_| "a library that bench/run did not build".to_string());
+    println!("proved     {made}; this processor: {}", std::env::consts::ARCH);
+    println!("Rust       plain Rust of the same two passes, {}", env!("RUST_COMPILER"));
+    println!("two walks  the limit: the right rows backward into scratch, the left rows forward, nothing else");
+    println!("foma       library {}, compile + apply in the whole call, apply in the tape part", foma::version());
+    println!("PCRE2      {}, compile + JIT + match in the whole call, match in the tape part", pcre2::version());
+    println!("packages   {}", std::env::var("PEERS_MADE").unwrap_or_default().trim());
+    println!("x          the proved library's time over the peer's: below 1 the proved library is faster");
+    println!(
+        "All gave the same outputs on every tape below; Rust also the same buffers, and on {DAMAGED} damaged books."
+    );
+}
+
+fn rewrite(cases: &Cases, pace: Pace) {
+    let house = Peers { foma: false, pcre2: Some(pcre2::HOUSE) };
+    let turn = Peers { foma: true, pcre2: Some(pcre2::TURN) };
+    let none = Peers::default();
+    let short = vec![cases.pool[0][..SHORT].to_vec()];
+    table::heading("REWRITE, tapes of 4,096 symbols where no other length is said: million symbols per second");
+    for (name, book, tapes, peers) in [
+        ("house book, pool-like tapes", &cases.house, &cases.pool, house),
+        ("turn rule alone, pool-like tapes", &cases.turn, &cases.pool, turn),
+        ("turn rule alone, one tape of 64 symbols", &cases.turn, &short, turn),
+        ("dense book (16 rules, 512 arcs), random tapes", &cases.dense, &cases.random, none),
+        ("256 sets a side, random tapes", &cases.full, &cases.random, none),
+        ("house book, one long stretch", &cases.house, &cases.one_stretch, house),
+        ("house book, no candidate", &cases.house, &cases.no_candidate, house),
+    ] {
+        table::print(&measure::rewrite(name, book, tapes, peers, pace));
+    }
+}
+
+fn build(cases: &Cases, pace: Pace) {
+    let house = Peers { foma: false, pcre2: Some(pcre2::HOUSE) };
+    let turn = Peers { foma: true, pcre2: Some(pcre2::TURN) };
+    table::heading("CHECK and BUILD: microseconds a call");
+    table::print(&[
+        measure::check("CHECK, house book", &cases.house, pace),
+        measure::check("CHECK, largest book", &cases.largest, pace),
+        measure::build("BUILD, house book", &cases.house, house, pace),
+        measure::build("BUILD, turn rule alone", &cases.turn, turn, pace),
+        measure::build("BUILD, dense book", &cases.dense, Peers::default(), pace),
+        measure::build("BUILD, 19 states, 16 arcs", &cases.full, Peers::default(), pace),
+        measure::build("BUILD, 64 states, 512 arcs", &cases.largest, Peers::default(), pace),
+    ]);
+}
+
+fn account(cases: &Cases, pace: Pace, short: bool) {
+    table::heading("ACCOUNT: microseconds a call, unless the row says otherwise");
+    let front = |symbols| &cases.random[0][..symbols];
+    table::print(&[measure::account("house book, pool-like", &cases.house, &cases.pool, pace)]);
+    table::print(&measure::hostile("no two focus sets alike", &cases.alike, 1, front(ALIKE), pace));
+    for symbols in HOSTILE {
+        table::print(&measure::hostile("every stretch, 16 rules", &cases.every, RULES, front(symbols), pace));
+    }
+    if short {
+        println!("every stretch, 16 rules, {TAPE} symbols: not in a short run");
+    } else if memory() < 4 << 30 {
+        println!("every stretch, 16 rules, {TAPE} symbols: needs 1.4 GB for its lines, left out on this machine");
+    } else {
+        table::print(&measure::longest_account("every stretch, 16 rules, once", &cases.every, &cases.random[0]));
+    }
+}
+
+/// Bytes of memory that are free for use; 0 where the machine does not say.
+fn memory() -> u64 {
+    let said = std::fs::read_to_string("/proc/meminfo").unwrap_or_default();
+    let line = said.lines().find(|line| line.starts_with("MemAvailable:"));
+    line.and_then(|line| line.split_whitespace().nth(1)?.parse::<u64>().ok()).unwrap_or(0) << 10
+}
+
+fn stack(cases: &Cases) {
+    println!("\nSTACK: bytes, on a painted stack");
+    let input = |name, book: &[u8], tape: &[u8]| Input { name, book: book.to_vec(), tape: tape.to_vec() };
+    let few = &cases.random[0][..ALIKE];
+    let inputs = [
+        input("house book, pool-like tape", &cases.house, &cases.pool[0]),
+        input("house book, one long stretch", &cases.house, &cases.one_stretch[0]),
+        input("house book, no candidate", &cases.house, &cases.no_candidate[0]),
+        input("dense book", &cases.dense, &cases.random[0]),
+        input("256 sets a side", &cases.full, &cases.random[0]),
+        input("64 states, 512 arcs", &cases.largest, &cases.random[0]),
+        input("every stretch a candidate", &cases.every, few),
+        input("no two focus sets alike", &cases.alike, few),
+        input("a tape that is too long", &cases.house, &[0; TAPE + 1]),
+        input("a cut book", &cases.house[..100], few),
+        input("the empty book", &[], &[]),
+    ];
+    depths::print(&inputs, RULES * ALIKE * (ALIKE + 1) / 2);
+}

@@ -1,0 +1,86 @@
+//! The forward pass of REWRITE.
+
+use super::Ready;
+
+/// Where the output goes: it is measured by one sink and written by the other.
+trait Sink {
+    fn keep(&mut self, symbol: u8, i: usize);
+    fn word(&mut self, word: &[u8], start: usize);
+}
+
+struct Measure(usize);
+
+impl Sink for Measure {
+    fn keep(&mut self, _symbol: u8, _i: usize) {
+        self.0 += 1;
+    }
+
+    fn word(&mut self, word: &[u8], _start: usize) {
+        self.0 += word.len();
+    }
+}
+
+struct Write<'a> {
+    out: &'a mut [u8],
+    origins: &'a mut [u16],
+    at: usize,
+}
+
+impl Sink for Write<'_> {
+    fn keep(&mut self, symbol: u8, i: usize) {
+        self.out[self.at] = symbol;
+        self.origins[self.at] = i as u16;
+        self.at += 1;
+    }
+
+    fn word(&mut self, word: &[u8], start: usize) {
+        let end = self.at + word.len();
+        self.out[self.at..end].copy_from_slice(word);
+        self.origins[self.at..end].fill(start as u16);
+        self.at = end;
+    }
+}
+
+/// The output's length and the stretches taken, or the symbols needed. Measured first only where the buffers might be too short.
+pub fn finish(ready: &Ready, out: &mut [u8], origins: &mut [u16]) -> Result<(usize, usize), usize> {
+    let room = out.len().min(origins.len());
+    if room < ready.tape.len() * ready.outline.longest_word.max(1) {
+        let mut measure = Measure(0);
+        pass(ready, &mut measure);
+        if room < measure.0 {
+            return Err(measure.0);
+        }
+    }
+    let mut write = Write { out, origins, at: 0 };
+    let taken = pass(ready, &mut write);
+    Ok((write.at, taken))
+}
+
+/// The number of stretches taken.
+fn pass(ready: &Ready, sink: &mut impl Sink) -> usize {
+    let mut taken = 0;
+    let mut end = 0;
+    let mut number = 0;
+    for (i, symbol) in ready.tape.iter().enumerate() {
+        if i >= end {
+            match stretch_at(ready, i, number) {
+                None => sink.keep(*symbol, i),
+                Some((stop, rule)) => {
+                    let word = &ready.book[ready.outline.words[rule] as usize + 1..];
+                    sink.word(&word[1..1 + word[0] as usize], i);
+                    end = stop;
+                    taken += 1;
+                }
+            }
+        }
+        number = ready.left_step(number, *symbol);
+    }
+    taken
+}
+
+fn stretch_at(ready: &Ready, i: usize, number: usize) -> Option<(usize, usize)> {
+    if ready.right_set(i) & ready.outline.all_focus_starts == 0 {
+        return None; // most positions
+    }
+    ready.taken_at(i, ready.sets[number])
+}
