@@ -131,7 +131,8 @@ fn count_and_write<'a>(
     }
 }
 
-// One tape after a build and its backward pass.
+// The account of one tape after a build and its backward pass. Public, and with a `requires`, as `passes::finish` is: who accounts for many
+// tapes after one build need not check and build again for each.
 pub fn list(
     book: &[u8],
     tape: &[u8],
