@@ -4,10 +4,12 @@ use crate::answer::{Accounted, Built, Checked, Rewritten, Stretch, LINE};
 use crate::lent::Lent;
 use crate::proved::{qafrendi_account, qafrendi_build, qafrendi_check, qafrendi_rewrite, qafrendi_show};
 use crate::stack::Painted;
+use std::mem::MaybeUninit;
 
-type Check = unsafe extern "C" fn(*const u8, usize) -> Checked;
-type Build = unsafe extern "C" fn(*const u8, usize, *mut u8, usize, *mut u64, usize) -> Built;
+type Check = unsafe extern "C" fn(*mut Checked, *const u8, usize) -> *mut Checked;
+type Build = unsafe extern "C" fn(*mut Built, *const u8, usize, *mut u8, usize, *mut u64, usize) -> *mut Built;
 type Rewrite = unsafe extern "C" fn(
+    *mut Rewritten,
     *const u8,
     usize,
     *const u8,
@@ -22,8 +24,9 @@ type Rewrite = unsafe extern "C" fn(
     usize,
     *mut u16,
     usize,
-) -> Rewritten;
+) -> *mut Rewritten;
 type Account = unsafe extern "C" fn(
+    *mut Accounted,
     *const u8,
     usize,
     *const u8,
@@ -36,23 +39,32 @@ type Account = unsafe extern "C" fn(
     usize,
     *mut u16,
     usize,
-) -> Accounted;
+) -> *mut Accounted;
 type Show = unsafe extern "C" fn(usize, *const u16, usize, usize) -> Stretch;
 
 /// Functions of the operations' types that do nothing.
 mod nothing {
     use super::*;
 
-    pub unsafe extern "C" fn check(_: *const u8, _: usize) -> Checked {
-        Checked { reply: 0, place: 0, rules: 0, states: 0, arcs: 0 }
+    pub unsafe extern "C" fn check(answer: *mut Checked, _: *const u8, _: usize) -> *mut Checked {
+        answer
     }
 
-    pub unsafe extern "C" fn build(_: *const u8, _: usize, _: *mut u8, _: usize, _: *mut u64, _: usize) -> Built {
-        Built { reply: 0, place: 0, left: 0, right: 0 }
+    pub unsafe extern "C" fn build(
+        answer: *mut Built,
+        _: *const u8,
+        _: usize,
+        _: *mut u8,
+        _: usize,
+        _: *mut u64,
+        _: usize,
+    ) -> *mut Built {
+        answer
     }
 
     #[allow(clippy::too_many_arguments)]
     pub unsafe extern "C" fn rewrite(
+        answer: *mut Rewritten,
         _: *const u8,
         _: usize,
         _: *const u8,
@@ -67,12 +79,13 @@ mod nothing {
         _: usize,
         _: *mut u16,
         _: usize,
-    ) -> Rewritten {
-        Rewritten { reply: 0, place: 0, length: 0, taken: 0 }
+    ) -> *mut Rewritten {
+        answer
     }
 
     #[allow(clippy::too_many_arguments)]
     pub unsafe extern "C" fn account(
+        answer: *mut Accounted,
         _: *const u8,
         _: usize,
         _: *const u8,
@@ -85,8 +98,8 @@ mod nothing {
         _: usize,
         _: *mut u16,
         _: usize,
-    ) -> Accounted {
-        Accounted { reply: 0, place: 0, candidates: 0 }
+    ) -> *mut Accounted {
+        answer
     }
 
     pub unsafe extern "C" fn show(_: usize, _: *const u16, _: usize, _: usize) -> Stretch {
@@ -129,10 +142,9 @@ impl Depth {
     }
 }
 
-/// The words of arguments that do not fit the registers: six on x86-64, where an answer of more than two words takes one; eight on Arm.
-fn pushed(arguments: usize, large_answer: bool) -> usize {
-    let (registers, hidden) = if cfg!(target_arch = "x86_64") { (6, usize::from(large_answer)) } else { (8, 0) };
-    (arguments + hidden).saturating_sub(registers)
+/// The words of arguments that do not fit the registers, six on x86-64 and eight on Arm; the place of the answer is one of them.
+fn pushed(arguments: usize) -> usize {
+    arguments.saturating_sub(if cfg!(target_arch = "x86_64") { 6 } else { 8 })
 }
 
 pub fn print(inputs: &[Input], lines: usize) {
@@ -148,27 +160,47 @@ pub fn print(inputs: &[Input], lines: usize) {
         lines.as_mut_ptr(),
     );
     let (rn, sn, cn, on, gn, ln) = (rows.len(), sets.len(), scratch.len(), out.len(), origins.len(), lines.len());
-    let check = Depth::of("check", pushed(2, true), inputs, |Input { book, .. }| {
+    let check = Depth::of("check", pushed(3), inputs, |Input { book, .. }| {
+        let mut answer = MaybeUninit::uninit();
         painted.bytes(qafrendi_check as Check, nothing::check, |f| unsafe {
-            f(book.as_ptr(), book.len());
+            f(answer.as_mut_ptr(), book.as_ptr(), book.len());
         })
     });
-    let build = Depth::of("build", pushed(6, true), inputs, |Input { book, .. }| {
+    let build = Depth::of("build", pushed(7), inputs, |Input { book, .. }| {
+        let mut answer = MaybeUninit::uninit();
         painted.bytes(qafrendi_build as Build, nothing::build, |f| unsafe {
-            f(book.as_ptr(), book.len(), r, rn, s, sn);
+            f(answer.as_mut_ptr(), book.as_ptr(), book.len(), r, rn, s, sn);
         })
     });
-    let rewrite = Depth::of("rewrite", pushed(14, true), inputs, |Input { book, tape, .. }| {
+    let rewrite = Depth::of("rewrite", pushed(15), inputs, |Input { book, tape, .. }| {
+        let mut answer = MaybeUninit::uninit();
         painted.bytes(qafrendi_rewrite as Rewrite, nothing::rewrite, |f| unsafe {
-            f(book.as_ptr(), book.len(), tape.as_ptr(), tape.len(), r, rn, s, sn, c, cn, o, on, g, gn);
+            f(
+                answer.as_mut_ptr(),
+                book.as_ptr(),
+                book.len(),
+                tape.as_ptr(),
+                tape.len(),
+                r,
+                rn,
+                s,
+                sn,
+                c,
+                cn,
+                o,
+                on,
+                g,
+                gn,
+            );
         })
     });
-    let account = Depth::of("account", pushed(12, true), inputs, |Input { book, tape, .. }| {
+    let account = Depth::of("account", pushed(13), inputs, |Input { book, tape, .. }| {
+        let mut answer = MaybeUninit::uninit();
         painted.bytes(qafrendi_account as Account, nothing::account, |f| unsafe {
-            f(book.as_ptr(), book.len(), tape.as_ptr(), tape.len(), r, rn, s, sn, c, cn, l, ln);
+            f(answer.as_mut_ptr(), book.as_ptr(), book.len(), tape.as_ptr(), tape.len(), r, rn, s, sn, c, cn, l, ln);
         })
     });
-    let show = Depth::of("show", pushed(4, false), inputs, |Input { tape, .. }| {
+    let show = Depth::of("show", pushed(4), inputs, |Input { tape, .. }| {
         let last = ln / LINE - 1;
         [0, last, last + 1]
             .map(|line| {

@@ -1,19 +1,23 @@
-//! The proved library, through its C face.
+//! The proved library, through its C face. An answer of more than two words goes where a pointer in front of the arguments says, and the
+//! pointer comes back: that is how C hands it over on x86-64. Said outright, it holds on every processor that `native-lib` compiles for.
 
 use crate::answer::{Accounted, Built, Checked, Rewritten, Stretch};
 use crate::lent::Lent;
+use std::mem::MaybeUninit;
 
 extern "C" {
-    pub fn qafrendi_check(book: *const u8, book_length: usize) -> Checked;
+    pub fn qafrendi_check(answer: *mut Checked, book: *const u8, book_length: usize) -> *mut Checked;
     pub fn qafrendi_build(
+        answer: *mut Built,
         book: *const u8,
         book_length: usize,
         rows: *mut u8,
         rows_length: usize,
         sets: *mut u64,
         sets_length: usize,
-    ) -> Built;
+    ) -> *mut Built;
     pub fn qafrendi_rewrite(
+        answer: *mut Rewritten,
         book: *const u8,
         book_length: usize,
         tape: *const u8,
@@ -28,8 +32,9 @@ extern "C" {
         out_length: usize,
         origins: *mut u16,
         origins_length: usize,
-    ) -> Rewritten;
+    ) -> *mut Rewritten;
     pub fn qafrendi_account(
+        answer: *mut Accounted,
         book: *const u8,
         book_length: usize,
         tape: *const u8,
@@ -42,25 +47,35 @@ extern "C" {
         scratch_length: usize,
         lines: *mut u16,
         lines_length: usize,
-    ) -> Accounted;
+    ) -> *mut Accounted;
     pub fn qafrendi_show(tape_length: usize, lines: *const u16, lines_length: usize, line: usize) -> Stretch;
 }
 
 // Each buffer is a slice of its own, hence not null, aligned, as long as said, and apart from the others: what the header asks for.
 
+/// What the operation writes where it is told to.
+fn answer<A>(operation: impl FnOnce(*mut A) -> *mut A) -> A {
+    let mut place = MaybeUninit::uninit();
+    operation(place.as_mut_ptr());
+    unsafe { place.assume_init() }
+}
+
 pub fn check(book: &[u8]) -> Checked {
-    unsafe { qafrendi_check(book.as_ptr(), book.len()) }
+    answer(|to| unsafe { qafrendi_check(to, book.as_ptr(), book.len()) })
 }
 
 pub fn build(book: &[u8], lent: &mut Lent) -> Built {
     let Lent { rows, sets, .. } = lent;
-    unsafe { qafrendi_build(book.as_ptr(), book.len(), rows.as_mut_ptr(), rows.len(), sets.as_mut_ptr(), sets.len()) }
+    answer(|to| unsafe {
+        qafrendi_build(to, book.as_ptr(), book.len(), rows.as_mut_ptr(), rows.len(), sets.as_mut_ptr(), sets.len())
+    })
 }
 
 pub fn rewrite(book: &[u8], tape: &[u8], lent: &mut Lent) -> Rewritten {
     let Lent { rows, sets, scratch, out, origins, .. } = lent;
-    unsafe {
+    answer(|to| unsafe {
         qafrendi_rewrite(
+            to,
             book.as_ptr(),
             book.len(),
             tape.as_ptr(),
@@ -76,13 +91,14 @@ pub fn rewrite(book: &[u8], tape: &[u8], lent: &mut Lent) -> Rewritten {
             origins.as_mut_ptr(),
             origins.len(),
         )
-    }
+    })
 }
 
 pub fn account(book: &[u8], tape: &[u8], lent: &mut Lent) -> Accounted {
     let Lent { rows, sets, scratch, lines, .. } = lent;
-    unsafe {
+    answer(|to| unsafe {
         qafrendi_account(
+            to,
             book.as_ptr(),
             book.len(),
             tape.as_ptr(),
@@ -96,5 +112,5 @@ pub fn account(book: &[u8], tape: &[u8], lent: &mut Lent) -> Accounted {
             lines.as_mut_ptr(),
             lines.len(),
         )
-    }
+    })
 }
