@@ -1,4 +1,4 @@
-//! Links the proved library from the folder that `bench/run` names, and the two peers from where Debian puts them.
+//! Where the proved library stands: the folder that `bench/run` names.
 
 use std::process::Command;
 
@@ -8,9 +8,6 @@ fn main() {
     let deck = std::env::var("DECK_DIR").expect("DECK_DIR names the folder of libdeck.a; bench/run sets it");
     println!("cargo:rustc-link-search=native={deck}");
     println!("cargo:rerun-if-changed={deck}/libdeck.a");
-    println!("cargo:rustc-link-lib=static=deck");
-    println!("cargo:rustc-link-lib=dylib=foma");
-    println!("cargo:rustc-link-lib=dylib=pcre2-8");
     println!("cargo:rustc-env=RUST_COMPILER={}", compiler());
 }
 

@@ -36,13 +36,6 @@ pub struct Accounted {
     pub candidates: usize,
 }
 
-#[repr(C)]
-#[derive(Clone, Copy, Debug, PartialEq)]
-pub struct Stretch {
-    pub start: usize,
-    pub end: usize,
-}
-
 /// The numbers of document 01 that lengths of buffers follow from.
 pub const SYMBOLS: usize = 16;
 pub const RULES: usize = 16;

@@ -3,6 +3,7 @@
 use std::ffi::{c_char, c_void, CStr, CString};
 use std::ptr::null_mut;
 
+#[link(name = "foma")]
 extern "C" {
     fn fsm_get_library_version_string() -> *const c_char;
     fn fsm_parse_regex(regex: *mut c_char, networks: *mut c_void, functions: *mut c_void) -> *mut c_void;

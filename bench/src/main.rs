@@ -1,70 +1,30 @@
-//! The proved library side by side with its peers, in one run on this machine; then the stack of each operation.
+//! The proved library side by side with its peers, in one run on this machine.
 //! README.md says what each row is and how to read it.
 
 mod agree;
-mod answer;
-mod books;
-mod chance;
 mod clock;
-mod depths;
 mod foma;
 mod lent;
 mod measure;
 mod pcre2;
 mod plain;
 mod proved;
-mod stack;
 mod table;
-mod tapes;
 mod walks;
 
 use answer::{RULES, TAPE};
+use bench::cases::{Cases, SEED};
+use bench::{answer, books, chance, tapes};
 use chance::Chance;
 use clock::Pace;
-use depths::Input;
 use measure::Peers;
 
-const SEED: u64 = 2026;
-const POOL_TAPES: usize = 8;
 const DAMAGED: usize = 4000;
 const SHORT: usize = 64;
 
 /// The lengths of the tapes on which every stretch is a candidate of every rule, and of that for the sets that never come again.
 const HOSTILE: [usize; 2] = [256, 1024];
 const ALIKE: usize = 64;
-
-/// Every book and the tapes that it is tried on.
-struct Cases {
-    house: Vec<u8>,
-    turn: Vec<u8>,
-    dense: Vec<u8>,
-    full: Vec<u8>,
-    largest: Vec<u8>,
-    every: Vec<u8>,
-    alike: Vec<u8>,
-    pool: Vec<Vec<u8>>,
-    random: Vec<Vec<u8>>,
-    one_stretch: Vec<Vec<u8>>,
-    no_candidate: Vec<Vec<u8>>,
-}
-
-impl Cases {
-    fn new(chance: &mut Chance) -> Cases {
-        Cases {
-            house: books::house(),
-            turn: books::turn(),
-            dense: books::dense(chance),
-            full: books::full_sets(),
-            largest: books::largest(),
-            every: books::every_stretch(),
-            alike: books::no_two_alike(chance),
-            pool: (0..POOL_TAPES).map(|_| tapes::pool(chance)).collect(),
-            random: (0..POOL_TAPES).map(|_| tapes::random(TAPE, chance)).collect(),
-            one_stretch: vec![tapes::one_stretch()],
-            no_candidate: (0..POOL_TAPES).map(|_| tapes::no_candidate(chance)).collect(),
-        }
-    }
-}
 
 fn main() {
     let short = std::env::args().nth(1).is_some_and(|word| word == "short");
@@ -76,7 +36,6 @@ fn main() {
     rewrite(&cases, pace);
     build(&cases, pace);
     account(&cases, pace, short);
-    stack(&cases);
 }
 
 /// All contestants give the same on everything that is timed.
@@ -169,24 +128,4 @@ fn memory() -> u64 {
     let said = std::fs::read_to_string("/proc/meminfo").unwrap_or_default();
     let line = said.lines().find(|line| line.starts_with("MemAvailable:"));
     line.and_then(|line| line.split_whitespace().nth(1)?.parse::<u64>().ok()).unwrap_or(0) << 10
-}
-
-fn stack(cases: &Cases) {
-    println!("\nSTACK: bytes, on a painted stack");
-    let input = |name, book: &[u8], tape: &[u8]| Input { name, book: book.to_vec(), tape: tape.to_vec() };
-    let few = &cases.random[0][..ALIKE];
-    let inputs = [
-        input("house book, pool-like tape", &cases.house, &cases.pool[0]),
-        input("house book, one long stretch", &cases.house, &cases.one_stretch[0]),
-        input("house book, no candidate", &cases.house, &cases.no_candidate[0]),
-        input("dense book", &cases.dense, &cases.random[0]),
-        input("256 sets a side", &cases.full, &cases.random[0]),
-        input("64 states, 512 arcs", &cases.largest, &cases.random[0]),
-        input("every stretch a candidate", &cases.every, few),
-        input("no two focus sets alike", &cases.alike, few),
-        input("a tape that is too long", &cases.house, &[0; TAPE + 1]),
-        input("a cut book", &cases.house[..100], few),
-        input("the empty book", &[], &[]),
-    ];
-    depths::print(&inputs, RULES * ALIKE * (ALIKE + 1) / 2);
 }

@@ -6,6 +6,7 @@ use crate::lent::Lent;
 use std::ffi::c_void;
 use std::ptr::null_mut;
 
+#[link(name = "pcre2-8")]
 extern "C" {
     fn pcre2_config_8(what: u32, to: *mut c_void) -> i32;
     fn pcre2_compile_8(

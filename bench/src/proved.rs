@@ -1,13 +1,14 @@
 //! The proved library, through its C face. An answer of more than two words goes where a pointer in front of the arguments says, and the
 //! pointer comes back: that is how C hands it over on x86-64. Said outright, it holds on every processor that `native-lib` compiles for.
 
-use crate::answer::{Accounted, Built, Checked, Rewritten, Stretch};
+use crate::answer::{Accounted, Built, Checked, Rewritten};
 use crate::lent::Lent;
 use std::mem::MaybeUninit;
 
+#[link(name = "deck", kind = "static")]
 extern "C" {
-    pub fn qafrendi_check(answer: *mut Checked, book: *const u8, book_length: usize) -> *mut Checked;
-    pub fn qafrendi_build(
+    fn qafrendi_check(answer: *mut Checked, book: *const u8, book_length: usize) -> *mut Checked;
+    fn qafrendi_build(
         answer: *mut Built,
         book: *const u8,
         book_length: usize,
@@ -16,7 +17,7 @@ extern "C" {
         sets: *mut u64,
         sets_length: usize,
     ) -> *mut Built;
-    pub fn qafrendi_rewrite(
+    fn qafrendi_rewrite(
         answer: *mut Rewritten,
         book: *const u8,
         book_length: usize,
@@ -33,7 +34,7 @@ extern "C" {
         origins: *mut u16,
         origins_length: usize,
     ) -> *mut Rewritten;
-    pub fn qafrendi_account(
+    fn qafrendi_account(
         answer: *mut Accounted,
         book: *const u8,
         book_length: usize,
@@ -48,7 +49,6 @@ extern "C" {
         lines: *mut u16,
         lines_length: usize,
     ) -> *mut Accounted;
-    pub fn qafrendi_show(tape_length: usize, lines: *const u16, lines_length: usize, line: usize) -> Stretch;
 }
 
 // Each buffer is a slice of its own, hence not null, aligned, as long as said, and apart from the others: what the header asks for.

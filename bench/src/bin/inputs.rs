@@ -1,0 +1,36 @@
+//! inputs DIR: the inputs that stack.c measures each operation on. DIR/names has a name a line; NAME.book and NAME.tape are the bytes.
+//! A program of its own, so that it needs neither the library nor its peers.
+
+use bench::answer::TAPE;
+use bench::cases::{Cases, SEED};
+use bench::chance::Chance;
+use std::fs::write;
+use std::path::PathBuf;
+
+/// The symbols of a short tape, for all stretches of which stack.c has lines; and the bytes of the house book that is cut.
+const FEW: usize = 64;
+const CUT: usize = 100;
+
+fn main() -> std::io::Result<()> {
+    let folder = PathBuf::from(std::env::args().nth(1).expect("inputs DIR"));
+    let cases = Cases::new(&mut Chance::new(SEED));
+    let few = &cases.random[0][..FEW];
+    let inputs: [(&str, &[u8], &[u8]); 11] = [
+        ("house book, pool-like tape", &cases.house, &cases.pool[0]),
+        ("house book, one long stretch", &cases.house, &cases.one_stretch[0]),
+        ("house book, no candidate", &cases.house, &cases.no_candidate[0]),
+        ("dense book", &cases.dense, &cases.random[0]),
+        ("256 sets a side", &cases.full, &cases.random[0]),
+        ("64 states, 512 arcs", &cases.largest, &cases.random[0]),
+        ("every stretch a candidate", &cases.every, few),
+        ("no two focus sets alike", &cases.alike, few),
+        ("a tape that is too long", &cases.house, &[0; TAPE + 1]),
+        ("a cut book", &cases.house[..CUT], few),
+        ("the empty book", &[], &[]),
+    ];
+    for (name, book, tape) in inputs {
+        write(folder.join(format!("{name}.book")), book)?;
+        write(folder.join(format!("{name}.tape")), tape)?;
+    }
+    write(folder.join("names"), inputs.map(|(name, ..)| format!("{name}\n")).concat())
+}

@@ -1,0 +1,40 @@
+//! Every book and the tapes that it is tried on.
+
+use crate::answer::TAPE;
+use crate::chance::Chance;
+use crate::{books, tapes};
+
+pub const SEED: u64 = 2026;
+const POOL_TAPES: usize = 8;
+
+pub struct Cases {
+    pub house: Vec<u8>,
+    pub turn: Vec<u8>,
+    pub dense: Vec<u8>,
+    pub full: Vec<u8>,
+    pub largest: Vec<u8>,
+    pub every: Vec<u8>,
+    pub alike: Vec<u8>,
+    pub pool: Vec<Vec<u8>>,
+    pub random: Vec<Vec<u8>>,
+    pub one_stretch: Vec<Vec<u8>>,
+    pub no_candidate: Vec<Vec<u8>>,
+}
+
+impl Cases {
+    pub fn new(chance: &mut Chance) -> Cases {
+        Cases {
+            house: books::house(),
+            turn: books::turn(),
+            dense: books::dense(chance),
+            full: books::full_sets(),
+            largest: books::largest(),
+            every: books::every_stretch(),
+            alike: books::no_two_alike(chance),
+            pool: (0..POOL_TAPES).map(|_| tapes::pool(chance)).collect(),
+            random: (0..POOL_TAPES).map(|_| tapes::random(TAPE, chance)).collect(),
+            one_stretch: vec![tapes::one_stretch()],
+            no_candidate: (0..POOL_TAPES).map(|_| tapes::no_candidate(chance)).collect(),
+        }
+    }
+}

@@ -1,0 +1,198 @@
+/* The stack that each public operation uses: it runs on a painted stack of its own, and the deepest place where the paint is gone tells.
+ *
+ *     low                                          high
+ *     [paint paint paint ... | operation | caller's arguments | caller ]
+ *                            ^ deepest place written
+ *
+ * The same caller calls a function that does nothing; the difference of the two depths is what the operation takes below its return
+ * address. What is reserved at the very bottom and never written is not seen.
+ *
+ * stack DIR: DIR holds what src/bin/inputs.rs writes. For x86-64, as the library is. */
+#include <stdio.h>
+#include <stdlib.h>
+#include <string.h>
+
+#include "qafrendi.h"
+
+enum {
+    STACK = 1 << 16,
+    REGISTERS = 6,            /* for arguments */
+    WORD = 8,                 /* bytes */
+    ROOM = 1 << 13,           /* more than any book or tape of the inputs has */
+    LINES = 16 * 64 * 65 / 2, /* every stretch of a short tape by every rule; the dense book's account has more and is refused */
+    TEXT = 1 << 12
+};
+
+/* Two paints: a byte that happens to be written in one of them shows in the other. */
+static const uint8_t paints[] = {0xa5, 0x5a};
+static uint8_t painted[STACK] __attribute__((aligned(64)));
+
+/* Any function; who calls it casts it back to its type. */
+typedef void function(void);
+typedef void caller(function *);
+
+/* call(f), with the stack pointer at top */
+void call_on(uint8_t *top, caller *call, function *f);
+
+/* Does nothing, whatever the type that it is called by. */
+function nothing;
+
+__asm__(
+    ".text\n"
+    "call_on:\n"
+    "    pushq %rbx\n"
+    "    movq %rsp, %rbx\n"
+    "    movq %rdi, %rsp\n"
+    "    movq %rdx, %rdi\n"
+    "    callq *%rsi\n"
+    "    movq %rbx, %rsp\n"
+    "    popq %rbx\n"
+    "    retq\n"
+    "nothing:\n"
+    "    retq\n");
+
+/* The input at hand, and what the operations are lent. */
+static uint8_t book[ROOM], tape[ROOM];
+static size_t book_length, tape_length;
+static uint8_t rows[QAFRENDI_ROWS];
+static uint64_t sets[QAFRENDI_SETS];
+static uint8_t scratch[QAFRENDI_SCRATCH];
+static uint8_t out[QAFRENDI_LONGEST_OUT];
+static uint16_t origins[QAFRENDI_LONGEST_OUT];
+static uint16_t lines[QAFRENDI_LINE_WORDS * LINES];
+
+static void check(function *f)
+{
+    ((__typeof__(qafrendi_check) *)f)(book, book_length);
+}
+
+static void build(function *f)
+{
+    ((__typeof__(qafrendi_build) *)f)(book, book_length, rows, QAFRENDI_ROWS, sets, QAFRENDI_SETS);
+}
+
+static void rewrite(function *f)
+{
+    ((__typeof__(qafrendi_rewrite) *)f)(
+        book, book_length, tape, tape_length, rows, QAFRENDI_ROWS, sets, QAFRENDI_SETS, scratch, QAFRENDI_SCRATCH,
+        out, QAFRENDI_LONGEST_OUT, origins, QAFRENDI_LONGEST_OUT);
+}
+
+static void account(function *f)
+{
+    ((__typeof__(qafrendi_account) *)f)(
+        book, book_length, tape, tape_length, rows, QAFRENDI_ROWS, sets, QAFRENDI_SETS, scratch, QAFRENDI_SCRATCH,
+        lines, QAFRENDI_LINE_WORDS * LINES);
+}
+
+/* The first line, the last, and one that is not there. */
+static void show(function *f)
+{
+    static const size_t shown[] = {0, LINES - 1, LINES};
+    for (size_t i = 0; i < sizeof shown / sizeof *shown; i++)
+        ((__typeof__(qafrendi_show) *)f)(tape_length, lines, QAFRENDI_LINE_WORDS * LINES, shown[i]);
+}
+
+/* One row: the operation, its arguments with the place of a long answer, and its stack at the worst input so far. */
+static struct operation {
+    const char *name;
+    int arguments;
+    caller *call;
+    function *f;
+    size_t bytes;
+    char worst[TEXT];
+} operations[] = {
+    {"check", 3, check, (function *)qafrendi_check, 0, "every input"},
+    {"build", 7, build, (function *)qafrendi_build, 0, "every input"},
+    {"rewrite", 15, rewrite, (function *)qafrendi_rewrite, 0, "every input"},
+    {"account", 13, account, (function *)qafrendi_account, 0, "every input"},
+    {"show", 4, show, (function *)qafrendi_show, 0, "every input"},
+};
+
+enum { OPERATIONS = sizeof operations / sizeof *operations };
+
+/* How deep the call goes. */
+static size_t depth(caller *call, function *f)
+{
+    size_t deepest = 0;
+    for (size_t i = 0; i < sizeof paints; i++) {
+        size_t whole = 0;
+        memset(painted, paints[i], STACK);
+        call_on(painted + STACK, call, f);
+        while (whole < STACK && painted[whole] == paints[i])
+            whole++;
+        if (deepest < STACK - whole)
+            deepest = STACK - whole;
+    }
+    return deepest;
+}
+
+static void measure(struct operation *o, const char *name)
+{
+    o->call(o->f); /* so that nothing is done for the first time on the painted stack */
+    size_t bytes = depth(o->call, o->f) - depth(o->call, nothing);
+    if (o->bytes < bytes) {
+        o->bytes = bytes;
+        strcpy(o->worst, name);
+    }
+}
+
+/* The caller's arguments are kept aligned to two words, and the return address is one. */
+static void print(const struct operation *o)
+{
+    size_t words = o->arguments > REGISTERS ? o->arguments - REGISTERS : 0;
+    size_t pushed = (words + 1) / 2 * 2 * WORD + WORD;
+    printf("%-10s%8zu%22zu%8zu   %s\n", o->name, o->bytes, pushed, o->bytes + pushed, o->worst);
+}
+
+static void stop(const char *what, const char *why)
+{
+    fprintf(stderr, "stack: %s: %s\n", what, why);
+    exit(1);
+}
+
+static FILE *opened(const char *folder, const char *name, const char *kind)
+{
+    char path[TEXT];
+    snprintf(path, TEXT, "%s/%s%s", folder, name, kind);
+    FILE *file = fopen(path, "rb");
+    if (!file)
+        stop(path, "cannot be read");
+    return file;
+}
+
+static size_t load(uint8_t *to, const char *folder, const char *name, const char *kind)
+{
+    FILE *file = opened(folder, name, kind);
+    size_t length = fread(to, 1, ROOM, file);
+    fclose(file);
+    if (length == ROOM)
+        stop(name, "too long");
+    return length;
+}
+
+static void measure_all(const char *folder, const char *name)
+{
+    book_length = load(book, folder, name, ".book");
+    tape_length = load(tape, folder, name, ".tape");
+    for (int i = 0; i < OPERATIONS; i++)
+        measure(&operations[i], name);
+}
+
+int main(int count, char **words)
+{
+    if (count != 2)
+        stop("DIR", "the folder of the inputs is wanted");
+    char name[TEXT];
+    FILE *names = opened(words[1], "names", "");
+    while (fgets(name, TEXT, names)) {
+        name[strcspn(name, "\n")] = 0;
+        measure_all(words[1], name);
+    }
+    fclose(names);
+    printf("STACK of the library that is delivered (rt staticlib deck, x86-64): bytes, on a painted stack\n");
+    printf("%-10s%8s%22s%8s   deepest at\n", "", "own", "arguments and return", "sum");
+    for (int i = 0; i < OPERATIONS; i++)
+        print(&operations[i]);
+    return 0;
+}
