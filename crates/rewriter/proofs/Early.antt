@@ -1,7 +1,7 @@
 -- The refusals before anything is built: each way down their order gives what the definition says, and a call that passes them all has an
 -- accepted book, a tape of symbols that is not too long, and buffers that are long enough. Assumes nothing.
 use Prim.Native.Nat.{ℕ, zero, suc, _+_, _≤_, _<_}
-use mathlib.Core.Path.{_≡_, refl, sym}
+use mathlib.Core.Path.{_≡_, refl, sym, ap}
 use mathlib.Core.List.{List, [], _∷_}
 use mathlib.Core.Bool.{Bool, true, false, cond, not, _||_, or-true, false≢true}
 use native.Mathlib.Numerals.{add-one}
@@ -15,8 +15,9 @@ use Rattle.book.specs.Format.{symbolCount}
 use Rattle.book.specs.Reading.{checkDef}
 use Rattle.sets.specs.Workspace.{rowBytes, setWords}
 use Rattle.rewriter.specs.Replies.{longestTape, firstBad, refusal, early}
-use Rattle.rewriter.specs.Opening.{Symbols}
+use Rattle.rewriter.specs.Opening.{greatest, Symbols}
 use Rattle.rewriter.specs.declared.Refusal.{Refusal}
+use Rattle.rewriter.proofs.Greatest.{greatest-all}
 
 -- the first bad symbol: here, later, nowhere
 pub bad-here : (t : List ℕ) (i : ℕ) → i < length t → symbolCount ≤ getD t i 0 → firstBad (drop i t) ≡ 0
@@ -41,6 +42,15 @@ unfolding firstBad
 all-good [] h i g = absurd (omega arith)
 all-good (x ∷ t) h zero g = ltb-true x symbolCount (head-good (ltb x symbolCount) (length t) (firstBad t) h .0)
 all-good (x ∷ t) h (suc i) g = all-good t (head-good (ltb x symbolCount) (length t) (firstBad t) h .1) i (omega arith)
+
+pub none-bad : (t : List ℕ) → Symbols t → firstBad t ≡ length t
+unfolding firstBad
+none-bad [] h = refl
+none-bad (x ∷ t) h = simp (lt-ltb x symbolCount (h 0 (omega arith))) (ap suc (none-bad t (λ i g. h (suc i) (omega arith))))
+
+-- where the greatest symbol is not bad
+pub bad-none : (t : List ℕ) (top : ℕ) → top ≡ greatest 0 t → top < symbolCount → length t ≡ firstBad t
+bad-none t top e h = sym (none-bad t (λ i g. omega (arith, greatest-all t 0 i g)))
 
 -- each way down, with the tests before it in hand
 module _ (book tape : List ℕ) (rows sets scratch : ℕ) where

@@ -14,57 +14,47 @@ use Rattle.rewriter.specs.Passes.{marksAt, put, Room, MarksPut}
 use Rattle.rewriter.proofs.NoEmpty.{no-empty}
 use Rattle.rewriter.proofs.Counts.{symbols-length, origins-length}
 use Rattle.rewriter.proofs.Marks.{symbols-append, origins-append}
-use Rattle.rewriter.proofs.Lefts.{LeftNumber, left-start, left-turn}
-use Rattle.rewriter.proofs.Front.{Front, front-start, front-count, front-put, front-end}
-use Rattle.rewriter.proofs.Along.{from, At, at-start, at-turn, marks-step, marks-all, marks-last}
+use Rattle.rewriter.proofs.Front.{Front, front-start, front-put, front-end}
+use Rattle.rewriter.proofs.Along.{from, marks-step, marks-all, marks-last}
+use Rattle.rewriter.proofs.Measured.{Counted, counted-start, counted-turn}
 
 -- what is still to be written from i on
 abbrev pub coming : List ℕ → List ℕ → ℕ → List Mark
 coming book t i = from (rulesIn book) t (writtenAt (rulesIn book) t) i
 
-pub record Forth (book t sets out₀ org₀ out org : List ℕ) (at end k i : ℕ) : Type 0 where
-  pub within : i ≤ length t
+pub record Forth (book t sets out₀ org₀ out org : List ℕ) (at many end k i : ℕ) : Type 0 where
+  pub counted : Counted book t sets at many end k i
   pub outs : Front out₀ out at (symbolsOf (coming book t i)) (symbolsOf (rewriting (rulesIn book) t))
   pub orgs : Front org₀ org at (originsOf (coming book t i)) (originsOf (rewriting (rulesIn book) t))
-  pub here : At (rulesIn book) t i end
-  pub left : LeftNumber book t sets k i
 
 module _ (book t rows sets scratch out₀ org₀ : List ℕ) (ready : Ready book t rows sets scratch) where
-  pub forth-start : Forth book t sets out₀ org₀ out₀ org₀ 0 0 0 0
+  pub forth-start : Forth book t sets out₀ org₀ out₀ org₀ 0 0 0 0 0
   forth-start = record {
-    within = omega arith;
+    counted = counted-start book t rows sets scratch ready;
     outs = subst (λ (m : List Mark). Front out₀ out₀ 0 (symbolsOf m) (symbolsOf (rewriting (rulesIn book) t))) (marks-all (rulesIn book) t) (front-start out₀ (symbolsOf (rewriting (rulesIn book) t)));
     orgs = subst (λ (m : List Mark). Front org₀ org₀ 0 (originsOf m) (originsOf (rewriting (rulesIn book) t))) (marks-all (rulesIn book) t) (front-start org₀ (originsOf (rewriting (rulesIn book) t)));
-    here = at-start (rulesIn book) t;
-    left = left-start book t rows sets scratch ready;
   }
 
-  module _ (out org : List ℕ) (at end k i : ℕ) (was : Forth book t sets out₀ org₀ out org at end k i) where
+  module _ (out org : List ℕ) (at many end k i : ℕ) (was : Forth book t sets out₀ org₀ out org at many end k i) where
     module _ (inside : i < length t) where
       step : coming book t i ≡ marksAt (rulesIn book) t i end ++ coming book t (suc i)
-      step = marks-step (rulesIn book) t i end inside (was .here)
-
-      more : length (coming book t i) ≡ length (marksAt (rulesIn book) t i end) + length (coming book t (suc i))
-      more = ap length step ∙ length-append (marksAt (rulesIn book) t i end) (coming book t (suc i))
+      step = marks-step (rulesIn book) t i end inside (was .counted .here)
 
       pub forth-room : length (rewriting (rulesIn book) t) ≤ length out₀ → length (rewriting (rulesIn book) t) ≤ length org₀ → Room (rulesIn book) t i at end out org
       forth-room f g =
-          let n = front-count out₀ out at (symbolsOf (coming book t i)) (symbolsOf (rewriting (rulesIn book) t)) (was .outs) in
-          let m = symbols-length (coming book t i) in
-          let z = symbols-length (rewriting (rulesIn book) t) in
-          let a = was .outs .same in
-          let b = was .orgs .same in
-          record { outs = omega (arith, more); orgs = omega (arith, more) }
+          let n = was .counted .lens in
+          let m = ap length step ∙ length-append (marksAt (rulesIn book) t i end) (coming book t (suc i)) in
+          record { outs = omega (arith, n, m, was .outs .same); orgs = omega (arith, n, m, was .orgs .same) }
 
-      pub forth-turn : (at′ end′ k′ : ℕ) (out′ org′ : List ℕ) → Room (rulesIn book) t i at end out org → MarksPut (rulesIn book) t i at end out org at′ end′ out′ org′ → k′ ≡ getD rows (symbolCount * k + getD t i 0) 0
-          → Forth book t sets out₀ org₀ out′ org′ at′ end′ k′ (i + 1)
-      forth-turn at′ end′ k′ out′ org′ room did g =
+      pub forth-turn : (at′ end′ many′ k′ : ℕ) (out′ org′ : List ℕ) → Room (rulesIn book) t i at end out org → MarksPut (rulesIn book) t i at end many out org at′ end′ many′ out′ org′ → k′ ≡ getD rows (symbolCount * k + getD t i 0) 0
+          → Forth book t sets out₀ org₀ out′ org′ at′ many′ end′ k′ (i + 1)
+      forth-turn at′ end′ many′ k′ out′ org′ room did g =
           let w : List Mark = marksAt (rulesIn book) t i end in
           let f : List Mark = coming book t (suc i) in
           let so : symbolsOf (coming book t i) ≡ symbolsOf w ++ symbolsOf f = ap symbolsOf step ∙ symbols-append w f in
           let go : originsOf (coming book t i) ≡ originsOf w ++ originsOf f = ap originsOf step ∙ origins-append w f in
-          let ns : at + length (symbolsOf w) ≡ at′ = ap (λ (k : ℕ). at + k) (symbols-length w) ∙ sym (did .next) in
-          let ng : at + length (originsOf w) ≡ at′ = ap (λ (k : ℕ). at + k) (origins-length w) ∙ sym (did .next) in
+          let ns : at + length (symbolsOf w) ≡ at′ = ap (λ (k : ℕ). at + k) (symbols-length w) ∙ sym (did .share .next) in
+          let ng : at + length (originsOf w) ≡ at′ = ap (λ (k : ℕ). at + k) (origins-length w) ∙ sym (did .share .next) in
           let whole : List ℕ = symbolsOf (rewriting (rulesIn book) t) in
           let places : List ℕ = originsOf (rewriting (rulesIn book) t) in
           let fo : Front out₀ (put out at (symbolsOf w)) (at + length (symbolsOf w)) (symbolsOf f) whole =
@@ -72,16 +62,14 @@ module _ (book t rows sets scratch out₀ org₀ : List ℕ) (ready : Ready book
           let fg : Front org₀ (put org at (originsOf w)) (at + length (originsOf w)) (originsOf f) places =
           front-put org₀ org at (originsOf w) (originsOf f) places (omega (arith, room .orgs, origins-length w)) (subst (λ (x : List ℕ). Front org₀ org at x places) go (was .orgs)) in
           record {
-            within = omega arith;
+            counted = counted-turn book t rows sets scratch ready at many end k i (was .counted) inside at′ end′ many′ (did .share) k′ g;
             outs = rw (add-one, did .outs) (subst (λ (n : ℕ). Front out₀ (put out at (symbolsOf w)) n (symbolsOf f) whole) ns fo);
             orgs = rw (add-one, did .orgs) (subst (λ (n : ℕ). Front org₀ (put org at (originsOf w)) n (originsOf f) places) ng fg);
-            here = rw (add-one, did .ends) (at-turn (rulesIn book) t i end (was .here));
-            left = left-turn book t rows sets scratch ready k i k′ inside (was .left) g;
           }
 
     module _ (past : length t ≤ i) where
       nothing : coming book t i ≡ []
-      nothing = let w = was .within in let e : i ≡ length t = omega arith in ap (coming book t) e ∙ marks-last (rulesIn book) t (no-empty book (ready .accepted))
+      nothing = let w = was .counted .within in let e : i ≡ length t = omega arith in ap (coming book t) e ∙ marks-last (rulesIn book) t (no-empty book (ready .accepted))
 
       pub forth-outs : out ≡ onto (symbolsOf (rewriting (rulesIn book) t)) out₀
       forth-outs = front-end out₀ out at (symbolsOf (rewriting (rulesIn book) t)) (subst (λ (m : List Mark). Front out₀ out at (symbolsOf m) (symbolsOf (rewriting (rulesIn book) t))) nothing (was .outs))

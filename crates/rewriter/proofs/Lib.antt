@@ -1,4 +1,5 @@
 pub mod Lists
+pub mod Greatest
 pub mod Words
 pub mod Greedy
 pub mod Smallest
@@ -20,12 +21,14 @@ pub mod CandidateSets
 pub mod First
 pub mod Meets
 pub mod Scans
+pub mod Remembering
 pub mod Outlines
 pub mod Front
 pub mod Lefts
 pub mod Along
 pub mod Marks
 pub mod Positions
+pub mod Limits
 pub mod Measured
 pub mod Forth
 pub mod Outcomes

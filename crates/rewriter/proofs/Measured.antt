@@ -1,4 +1,4 @@
--- The measuring pass: the counts so far and what is still to come make the whole. Assumes nothing.
+-- What both passes count: the counts so far and what is still to come make the whole. Assumes nothing.
 use Prim.Native.Nat.{ℕ, suc, _+_, _*_, _≤_, _<_}
 use native.Mathlib.Omega.{arith}
 use native.Mathlib.Numerals.{add-one}
@@ -6,21 +6,25 @@ use mathlib.Core.Path.{_≡_, ap, _∙_}
 use mathlib.Core.List.{List}
 use lib.ListN.{length, getD, length-append}
 use Rattle.book.specs.Format.{symbolCount, longestWord}
-use Rattle.book.specs.Language.{rulesIn}
+use Rattle.book.specs.Language.{Rules, rulesIn}
 use Rattle.rewriter.specs.Candidates.{taken, takenAt}
 use Rattle.rewriter.specs.Output.{writtenAt, rewriting}
+use Rattle.rewriter.specs.Replies.{longestTape}
 use Rattle.rewriter.specs.Ready.{Ready}
 use Rattle.rewriter.specs.Passes.{marksAt, takesAt, Shared, Sized}
 use Rattle.rewriter.proofs.NoEmpty.{no-empty}
 use Rattle.rewriter.proofs.Lefts.{LeftNumber, left-start, left-turn}
+use Rattle.rewriter.proofs.Limits.{output-fits, taken-most}
 use Rattle.rewriter.proofs.Along.{from, At, at-start, at-turn, marks-step, takes-step, marks-all, takes-all, marks-last, takes-last}
+
+-- what a position adds to nothing it adds to any counts
+pub shared-on : (b : Rules) (t : List ℕ) (i end m end′ one : ℕ) → Shared b t i 0 end 0 m end′ one → (n many : ℕ) → Shared b t i n end many (n + m) end′ (many + one)
+shared-on b t i end m end′ one did n many = record { ends = did .ends; next = omega (arith, did .next); many = omega (arith, did .many) }
 
 pub record Counted (book t sets : List ℕ) (n many end k i : ℕ) : Type 0 where
   pub within : i ≤ length t
   pub lens : n + length (from (rulesIn book) t (writtenAt (rulesIn book) t) i) ≡ length (rewriting (rulesIn book) t)
   pub takes : many + length (from (rulesIn book) t takenAt i) ≡ length (taken (rulesIn book) t)
-  pub few : n ≤ longestWord * i
-  pub once : many ≤ i
   pub here : At (rulesIn book) t i end
   pub left : LeftNumber book t sets k i
 
@@ -30,26 +34,37 @@ module _ (book t rows sets scratch : List ℕ) (ready : Ready book t rows sets s
     within = omega arith;
     lens = omega (arith, ap length (marks-all (rulesIn book) t));
     takes = omega (arith, ap length (takes-all (rulesIn book) t));
-    few = omega arith;
-    once = omega arith;
     here = at-start (rulesIn book) t;
     left = left-start book t rows sets scratch ready;
   }
 
   module _ (n many end k i : ℕ) (was : Counted book t sets n many end k i) where
-    pub counted-turn : i < length t → (m e one k′ : ℕ) → Shared (rulesIn book) t i end m e one → k′ ≡ getD rows (symbolCount * k + getD t i 0) 0 → Counted book t sets (n + m) (many + one) e k′ (i + 1)
-    counted-turn h m e one k′ did g =
-        let p = ap length (marks-step (rulesIn book) t i end h (was .here)) ∙ length-append (marksAt (rulesIn book) t i end) (from (rulesIn book) t (writtenAt (rulesIn book) t) (suc i)) in
-        let q = ap length (takes-step (rulesIn book) t i end h (was .here)) ∙ length-append (takesAt (rulesIn book) t i end) (from (rulesIn book) t takenAt (suc i)) in
-        record {
-          within = omega arith;
-          lens = rw add-one (omega (arith, p, did .lens, was .lens));
-          takes = rw add-one (omega (arith, q, did .many, was .takes));
-          few = omega (arith, did .few, was .few);
-          once = omega (arith, did .once, was .once);
-          here = rw (add-one, did .ends) (at-turn (rulesIn book) t i end (was .here));
-          left = left-turn book t rows sets scratch ready k i k′ h (was .left) g;
-        }
+    pub counted-taken : many ≤ longestTape
+    counted-taken = omega (arith, was .takes, taken-most book t rows sets scratch ready, ready .tape-fits)
+
+    module _ (inside : i < length t) (n′ end′ many′ : ℕ) (did : Shared (rulesIn book) t i n end many n′ end′ many′) where
+      marks-now : n′ + length (from (rulesIn book) t (writtenAt (rulesIn book) t) (suc i)) ≡ length (rewriting (rulesIn book) t)
+      marks-now =
+          let p = ap length (marks-step (rulesIn book) t i end inside (was .here)) ∙ length-append (marksAt (rulesIn book) t i end) (from (rulesIn book) t (writtenAt (rulesIn book) t) (suc i)) in
+          omega (arith, p, did .next, was .lens)
+
+      takes-now : many′ + length (from (rulesIn book) t takenAt (suc i)) ≡ length (taken (rulesIn book) t)
+      takes-now =
+          let p = ap length (takes-step (rulesIn book) t i end inside (was .here)) ∙ length-append (takesAt (rulesIn book) t i end) (from (rulesIn book) t takenAt (suc i)) in
+          omega (arith, p, did .many, was .takes)
+
+      -- no count is too great
+      pub counted-fits : (n′ ≤ longestTape * longestWord) × (many′ ≤ longestTape)
+      counted-fits = (omega (arith, marks-now, output-fits book t rows sets scratch ready), omega (arith, takes-now, taken-most book t rows sets scratch ready, ready .tape-fits))
+
+      pub counted-turn : (k′ : ℕ) → k′ ≡ getD rows (symbolCount * k + getD t i 0) 0 → Counted book t sets n′ many′ end′ k′ (i + 1)
+      counted-turn k′ g = record {
+        within = omega arith;
+        lens = rw add-one marks-now;
+        takes = rw add-one takes-now;
+        here = rw (add-one, did .ends) (at-turn (rulesIn book) t i end (was .here));
+        left = left-turn book t rows sets scratch ready k i k′ inside (was .left) g;
+      }
 
     pub counted-end : length t ≤ i → Sized (rulesIn book) t n many
     counted-end h =

@@ -1,23 +1,36 @@
 -- One tape after a build: its two outcomes, as the code answers. The laws of the definition that callers cite are those of Tapes.antt. Assumes
 -- nothing.
-use Prim.Native.Nat.{ℕ, _≤_, _<_}
-use mathlib.Core.Path.{_≡_, refl, sym, _∙_}
-use mathlib.Core.Logic.{_⊎_, inl, inr, ⊎-elim}
-use mathlib.Core.Bool.{Bool, true, false, cond, _&&_}
+use Prim.Native.Nat.{ℕ, min, _≤_, _<_}
+use mathlib.Core.Path.{_≡_, sym, _∙_}
+use mathlib.Core.Logic.{_≢_, by-cases}
 use mathlib.Core.Bool as B
 use mathlib.Core.List.{List}
 use native.Mathlib.Omega.{arith}
 use native.Mathlib.Decide.{decLt}
 use borrow.Author.Tests.{le-leb, lt-leb}
-use lib.Dec.{leb}
-use lib.ListN.{length, drop, length-append, length-drop}
+use lib.ListN.{length}
 use Rattle.book.specs.Language.{Rules}
 use Rattle.rewriter.specs.Candidates.{taken}
 use Rattle.rewriter.specs.Output.{rewriting, symbolsOf, originsOf}
 use Rattle.rewriter.specs.Replies.{onto, AfterTape, tapeLeaves, tapeDef}
-use Rattle.rewriter.specs.Passes.{Sized}
+use Rattle.rewriter.specs.Passes.{Sized, neededPast}
 use Rattle.rewriter.specs.declared.Rewritten.{Rewritten}
-use Rattle.rewriter.proofs.Counts.{symbols-length, origins-length}
+
+-- what is needed past a room
+module _ (b : Rules) (t : List ℕ) (room : ℕ) where
+  pub needed-none : length (rewriting b t) ≤ room → 0 ≡ neededPast b t room
+  unfolding neededPast
+  needed-none h = simp (le-leb _ _ h)
+
+  pub needed-all : room < length (rewriting b t) → length (rewriting b t) ≡ neededPast b t room
+  unfolding neededPast
+  needed-all h = simp (lt-leb _ _ h)
+
+  needed-some : neededPast b t room ≢ 0 → (neededPast b t room ≡ length (rewriting b t)) × (room < length (rewriting b t))
+  needed-some h = by-cases (decLt room (length (rewriting b t))) (λ g. (sym (needed-all g), g)) (λ g. absurd (h (sym (needed-none (omega arith)))))
+
+  pub needed-fits : (n : ℕ) → n ≡ neededPast b t room → n ≡ 0 → length (rewriting b t) ≤ room
+  needed-fits n e z = by-cases (decLt room (length (rewriting b t))) (λ g. omega (arith, needed-all g)) (λ g. omega arith)
 
 module _ (b : Rules) (t out org : List ℕ) where
   -- the two outcomes
@@ -48,9 +61,10 @@ module _ (b : Rules) (t out org : List ℕ) where
       (λ x. tapeLeaves (record { reply = 0; place = 0; length = s .lens x; taken = s .many x }) (e x) (f x))
       ∙ sym (tape-accepted (omega (arith, s .lens)) (omega (arith, s .lens)))
 
-  pub tape-no-room : (n k : ℕ) (r : Rewritten) → Sized b t n k → (length out < n) ⊎ (length org < n) → r ≡ record { reply = 15; place = n; length = 0; taken = 0 }
+  pub tape-no-room : (n : ℕ) (r : Rewritten) → n ≡ neededPast b t (min (length out) (length org)) → n ≢ 0 → r ≡ record { reply = 15; place = n; length = 0; taken = 0 }
       → tapeLeaves r out org ≡ tapeDef b t out org
-  tape-no-room n k r s h e =
-      (λ x. tapeLeaves (e x) out org)
-      ∙ (λ x. tapeLeaves (record { reply = 15; place = s .lens x; length = 0; taken = 0 }) out org)
-      ∙ sym (⊎-elim (λ g. short-out (omega (arith, s .lens))) (λ g. short-origins (omega (arith, s .lens))) h)
+  tape-no-room n r e h f =
+      let z = needed-some b t (min (length out) (length org)) (λ q. h (e ∙ q)) in
+      (λ x. tapeLeaves (f x) out org)
+      ∙ (λ x. tapeLeaves (record { reply = 15; place = (e ∙ z .0) x; length = 0; taken = 0 }) out org)
+      ∙ sym (by-cases (decLt (length out) (length (rewriting b t))) short-out (λ g. short-origins (omega (arith, z .1))))

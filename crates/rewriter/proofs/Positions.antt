@@ -1,7 +1,6 @@
 -- The three things that one position can do: it is inside a stretch, is kept, or begins a stretch, whose word stands for it. What each adds to
 -- the counts, and what each does to the outputs. Assumes nothing.
 use Prim.Native.Nat.{ℕ, _+_, _≤_, _<_}
-use native.Mathlib.Nat.{add-zero}
 use native.Mathlib.Omega.{arith}
 use mathlib.Core.Path.{_≡_, refl, sym, _∙_, ap}
 use mathlib.Core.List.{List, [], _∷_}
@@ -22,26 +21,23 @@ use Rattle.rewriter.proofs.NoEmpty.{NoEmpty, no-empty}
 use Rattle.rewriter.proofs.Meets.{none-first}
 use Rattle.rewriter.proofs.Scans.{walk-start, walk-dead}
 use Rattle.rewriter.proofs.Front.{put-nil, put-one}
-use Rattle.rewriter.proofs.Marks.{word-length, symbols-marks}
+use Rattle.rewriter.proofs.Marks.{symbols-marks}
 use Rattle.rewriter.proofs.Along.{marks-in, takes-in, end-in, end-new, marks-keep, marks-word, takes-none, takes-one}
 
 -- inside a stretch
 module _ (book t : List ℕ) (i end : ℕ) (h : i < end) where
-  pub shared-in : Shared (rulesIn book) t i end 0 end 0
-  shared-in = record {
+  pub shared-in : (at taken : ℕ) → Shared (rulesIn book) t i at end taken at end taken
+  shared-in at taken = record {
     ends = end-in (rulesIn book) t i end h;
-    lens = sym (ap length (marks-in (rulesIn book) t i end h));
-    many = sym (ap length (takes-in (rulesIn book) t i end h));
-    few = omega arith;
-    once = omega arith;
+    next = omega (arith, ap length (marks-in (rulesIn book) t i end h));
+    many = omega (arith, ap length (takes-in (rulesIn book) t i end h));
   }
 
-  pub put-in : (at : ℕ) (out org : List ℕ) → MarksPut (rulesIn book) t i at end out org at end out org
-  put-in at out org =
+  pub put-in : (at taken : ℕ) (out org : List ℕ) → MarksPut (rulesIn book) t i at end taken out org at end taken out org
+  put-in at taken out org =
       let e = marks-in (rulesIn book) t i end h in
       record {
-        ends = end-in (rulesIn book) t i end h;
-        next = rw (e, add-zero);
+        share = shared-in at taken;
         outs = rw e (put-nil out at);
         orgs = rw e (put-nil org at);
       }
@@ -66,23 +62,20 @@ module _ (book : List ℕ) (ok : checkDef book .reply ≡ 0) (t : List ℕ) (i e
     keeps : marksAt (rulesIn book) t i end ≡ record { symbol = getD t i 0; origin = i } ∷ []
     keeps = marks-keep (rulesIn book) t none i end new alone
 
-    pub shared-keep : Shared (rulesIn book) t i end 1 i 0
-    shared-keep = record {
+    pub shared-keep : (at taken : ℕ) → Shared (rulesIn book) t i at end taken (at + 1) i taken
+    shared-keep at taken = record {
       ends = sym alone ∙ end-new (rulesIn book) t i end new;
-      lens = sym (ap length keeps);
-      many = sym (ap length (takes-none (rulesIn book) t none i end new alone));
-      few = omega arith;
-      once = omega arith;
+      next = omega (arith, ap length keeps);
+      many = omega (arith, ap length (takes-none (rulesIn book) t none i end new alone));
     }
 
     pub keep-room : (at : ℕ) (out org : List ℕ) → Room (rulesIn book) t i at end out org → (at < length out) × (at < length org)
     keep-room at out org r = (omega (arith, r .outs, ap length keeps), omega (arith, r .orgs, ap length keeps))
 
-    pub put-keep : (at : ℕ) (out org : List ℕ) → Room (rulesIn book) t i at end out org → (at′ end′ : ℕ) (out′ org′ : List ℕ) → KeptPut (getD t i 0) i at out org at′ end′ out′ org′
-        → MarksPut (rulesIn book) t i at end out org at′ end′ out′ org′
-    put-keep at out org r at′ end′ out′ org′ p = record {
-      ends = p .ends ∙ sym alone ∙ end-new (rulesIn book) t i end new;
-      next = p .next ∙ rw keeps;
+    pub put-keep : (at taken : ℕ) (out org : List ℕ) → Room (rulesIn book) t i at end out org → (at′ end′ taken′ : ℕ) (out′ org′ : List ℕ) → KeptPut (getD t i 0) i at taken out org at′ end′ taken′ out′ org′
+        → MarksPut (rulesIn book) t i at end taken out org at′ end′ taken′ out′ org′
+    put-keep at taken out org r at′ end′ taken′ out′ org′ p = record {
+      share = rw (p .next, p .ends, p .many) (shared-keep at taken);
       outs = p .outs ∙ rw keeps (put-one out at (getD t i 0) (keep-room at out org r .0));
       orgs = p .orgs ∙ rw keeps (put-one org at i (keep-room at out org r .1));
     }
@@ -113,24 +106,21 @@ module _ (book : List ℕ) (ok : checkDef book .reply ≡ 0) (t : List ℕ) (i e
     marks-many : length (marksAt (rulesIn book) t i end) ≡ length (wordAt book (getD words rule 0))
     marks-many = ap length marks-are ∙ marks-length (wordAt book (getD words rule 0)) i
 
-    pub shared-word : (n : ℕ) → n ≡ length (wordAt book (getD words rule 0)) → Shared (rulesIn book) t i end n stop 1
-    shared-word n e = record {
+    pub shared-word : (at taken at′ : ℕ) → at′ ≡ at + length (wordAt book (getD words rule 0)) → Shared (rulesIn book) t i at end taken at′ stop (taken + 1)
+    shared-word at taken at′ e = record {
       ends = took .far ∙ end-new (rulesIn book) t i end new;
-      lens = e ∙ sym marks-many;
-      many = sym (takes-one (rulesIn book) t none i end new past);
-      few = omega (arith, e, word-length book (getD words rule 0) (stands .room), stands .room .short);
-      once = omega arith;
+      next = omega (arith, e, marks-many);
+      many = omega (arith, takes-one (rulesIn book) t none i end new past);
     }
 
     pub word-room : (at : ℕ) (out org : List ℕ) → Room (rulesIn book) t i at end out org
         → (at + length (wordAt book (getD words rule 0)) ≤ length out) × (at + length (wordAt book (getD words rule 0)) ≤ length org)
     word-room at out org r = (omega (arith, r .outs, marks-many), omega (arith, r .orgs, marks-many))
 
-    pub put-replace : (at : ℕ) (out org : List ℕ) (at′ : ℕ) (out′ org′ : List ℕ) → WordPut (wordAt book (getD words rule 0)) i at out org at′ out′ org′
-        → MarksPut (rulesIn book) t i at end out org at′ stop out′ org′
-    put-replace at out org at′ out′ org′ p = record {
-      ends = took .far ∙ end-new (rulesIn book) t i end new;
-      next = p .next ∙ ap (λ (n : ℕ). at + n) (sym marks-many);
+    pub put-replace : (at taken : ℕ) (out org : List ℕ) (at′ : ℕ) (out′ org′ : List ℕ) → WordPut (wordAt book (getD words rule 0)) i at out org at′ out′ org′
+        → MarksPut (rulesIn book) t i at end taken out org at′ stop (taken + 1) out′ org′
+    put-replace at taken out org at′ out′ org′ p = record {
+      share = shared-word at taken at′ (p .next);
       outs = p .outs ∙ ap (put out at) (sym (ap symbolsOf marks-are ∙ symbols-marks (wordAt book (getD words rule 0)) i));
       orgs = p .orgs ∙ ap (put org at) (sym (ap originsOf marks-are));
     }

@@ -2,16 +2,17 @@
 -- adds to the counts and does to the outputs, where the last stretch taken before it ends at `end`.
 use Prim.Native.Nat.{ℕ, _+_, _≤_}
 use mathlib.Core.Path.{_≡_}
-use mathlib.Core.List.{List, [], _∷_, _++_}
+use mathlib.Core.List.{List, [], _∷_, _++_, map}
 use mathlib.Core.Bool.{Bool, cond, _&&_}
-use lib.Dec.{ltb}
+use lib.Dec.{leb, ltb}
 use lib.ListN.{length, getD, take, drop, set}
-use Rattle.book.specs.Format.{mostRules, longestWord}
+use Rattle.book.specs.Format.{mostRules}
 use Rattle.book.specs.Reading.{Book}
 use Rattle.book.specs.Language.{Rules, rules}
 use Rattle.sets.specs.Sets.{meetsAccept, meetsStart}
 use Rattle.rewriter.specs.Candidates.{Stretch, rulesOf, firstOf, longest, ruleOf, fresh, takenAt, taken}
 use Rattle.rewriter.specs.Output.{Mark, marks, writtenAt, rewriting, symbolsOf, originsOf}
+use Rattle.rewriter.specs.Opening.{greatest}
 
 -- a rule passes at an end: X, the focus states there, holds a focus accept of it, and R, the right set there, a right start
 unfoldable pub hits : Book → ℕ → ℕ → ℕ → Bool
@@ -42,13 +43,15 @@ takesAt b t i end = cond (ltb i end) [] (takenAt i (getD t i 0 ∷ []) (fresh b 
 unfoldable pub endNext : Rules → List ℕ → ℕ → ℕ → ℕ
 endNext b t i end = cond (ltb i end) end (longest b t i)
 
--- what i adds to the output's length and to the number of stretches taken
-pub record Shared (b : Rules) (t : List ℕ) (i end length′ end′ taken : ℕ) : Type 0 where
+-- the counts after i, from those before it: the output's length and the stretches taken; and where the last stretch ends
+pub record Shared (b : Rules) (t : List ℕ) (i at end taken at′ end′ taken′ : ℕ) : Type 0 where
   pub ends : end′ ≡ endNext b t i end
-  pub lens : length′ ≡ length (marksAt b t i end)
-  pub many : taken ≡ length (takesAt b t i end)
-  pub few : length′ ≤ longestWord
-  pub once : taken ≤ 1
+  pub next : at′ ≡ at + length (marksAt b t i end)
+  pub many : taken′ ≡ taken + length (takesAt b t i end)
+
+-- no more symbols than these stand for one position: those of the longest word, or the one that is kept
+unfoldable pub mostMarks : Rules → ℕ
+mostMarks b = greatest 1 (map length (b .words))
 
 -- l with v in the place of as many elements from p on
 abbrev pub put : List ℕ → ℕ → List ℕ → List ℕ
@@ -59,6 +62,10 @@ pub record Sized (b : Rules) (t : List ℕ) (length′ taken′ : ℕ) : Type 0 
   pub lens : length′ ≡ length (rewriting b t)
   pub many : taken′ ≡ length (taken b t)
 
+-- the symbols that the output needs where it is longer than the room, else 0
+unfoldable pub neededPast : Rules → List ℕ → ℕ → ℕ
+neededPast b t room = cond (leb (length (rewriting b t)) room) 0 (length (rewriting b t))
+
 -- the word w of a stretch that begins at i, written at `at`
 pub record WordPut (w : List ℕ) (i at : ℕ) (out₀ org₀ : List ℕ) (at′ : ℕ) (out org : List ℕ) : Type 0 where
   pub next : at′ ≡ at + length w
@@ -66,9 +73,10 @@ pub record WordPut (w : List ℕ) (i at : ℕ) (out₀ org₀ : List ℕ) (at′
   pub orgs : org ≡ put org₀ at (originsOf (marks w i))
 
 -- the symbol x at i, kept and written at `at`
-pub record KeptPut (x i at : ℕ) (out₀ org₀ : List ℕ) (at′ end′ : ℕ) (out org : List ℕ) : Type 0 where
+pub record KeptPut (x i at taken : ℕ) (out₀ org₀ : List ℕ) (at′ end′ taken′ : ℕ) (out org : List ℕ) : Type 0 where
   pub ends : end′ ≡ i
   pub next : at′ ≡ at + 1
+  pub many : taken′ ≡ taken
   pub outs : out ≡ set out₀ at x
   pub orgs : org ≡ set org₀ at i
 
@@ -77,9 +85,8 @@ pub record Room (b : Rules) (t : List ℕ) (i at end : ℕ) (out org : List ℕ)
   pub outs : at + length (marksAt b t i end) ≤ length out
   pub orgs : at + length (marksAt b t i end) ≤ length org
 
--- what i does to both
-pub record MarksPut (b : Rules) (t : List ℕ) (i at end : ℕ) (out₀ org₀ : List ℕ) (at′ end′ : ℕ) (out org : List ℕ) : Type 0 where
-  pub ends : end′ ≡ endNext b t i end
-  pub next : at′ ≡ at + length (marksAt b t i end)
+-- what i does to both, and to the counts
+pub record MarksPut (b : Rules) (t : List ℕ) (i at end taken : ℕ) (out₀ org₀ : List ℕ) (at′ end′ taken′ : ℕ) (out org : List ℕ) : Type 0 where
+  pub share : Shared b t i at end taken at′ end′ taken′
   pub outs : out ≡ put out₀ at (symbolsOf (marksAt b t i end))
   pub orgs : org ≡ put org₀ at (originsOf (marksAt b t i end))

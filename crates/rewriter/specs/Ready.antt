@@ -9,6 +9,7 @@ use Rattle.book.specs.Reading.{State, Book, wordAt, checkDef, bookOf}
 use Rattle.book.specs.Sound.{Sound}
 use Rattle.book.specs.Outline.{Placed, ruleMask, allMask}
 use Rattle.sets.specs.Sets.{leftFirst, leftNext, rightAt}
+use Rattle.sets.specs.Stepping.{stepFold}
 use Rattle.sets.specs.Numbering.{mostSets}
 use Rattle.sets.specs.Workspace.{rowBytes, setWords, leftCount}
 use Rattle.rewriter.specs.Replies.{longestTape}
@@ -99,3 +100,16 @@ pub record Rights (book tape sets scratch : List ℕ) : Type 0 where
   pub sets-room : setWords ≤ length sets
   pub scratch-room : length tape < length scratch
   pub right : (j : ℕ) → j ≤ length tape → getD sets (mostSets + getD scratch j 0) 0 ≡ rightAt (bookOf book) tape j
+
+-- the steps of the focus that a pass remembers: the set before step k stands at k, the set after it at afterStep k
+abbrev pub slotCount : ℕ
+slotCount = 16
+
+abbrev pub afterStep : ℕ → ℕ
+afterStep k = slotCount + k
+
+-- each of them is a step of the book
+pub record Remembers (b : Book) (steps symbols : List ℕ) : Type 0 where
+  pub steps-room : length steps ≡ slotCount + slotCount
+  pub symbols-room : length symbols ≡ slotCount
+  pub step : (k : ℕ) → k < slotCount → getD steps (afterStep k) 0 ≡ stepFold (b .arcs) (getD steps k 0) (getD symbols k 0)

@@ -3,6 +3,8 @@
 use crate::LINE;
 use crate::outline::ALL_ACCEPTS;
 use crate::outline::MASKS;
+use crate::walk::SLOTS;
+use crate::walk::STEPS;
 use crate::walk::focus_first;
 use crate::walk::left_step;
 use crate::walk::right_set;
@@ -18,7 +20,7 @@ ghost use Rattle.sets.specs.Sets.{leftAt};
 ghost use Rattle.rewriter.specs.Candidates.{keep};
 ghost use Rattle.rewriter.specs.Account.{account, lineLength, wordsIn};
 ghost use Rattle.rewriter.specs.Replies.{longestTape, onto};
-ghost use Rattle.rewriter.specs.Ready.{Tests, Outlined, Ready, Rights};
+ghost use Rattle.rewriter.specs.Ready.{Tests, Outlined, Ready, Rights, Remembers};
 ghost use Rattle.rewriter.specs.Passes.{hits};
 ghost use Rattle.rewriter.specs.Lines.{decidingAt, verdictBy, lineBy, hitLines, startLines, LinesFit, LinesPut};
 
@@ -182,16 +184,32 @@ fn deciding_at(
     i: usize,
     left: u64,
     d: Deciding,
+    steps: &mut [u64; STEPS],
+    symbols: &mut [u8; SLOTS],
 ) -> Deciding
     requires { ⌜ Outlined (bookOf (now book)) rules (now places) (now masks) ⌝ }
     requires { ⌜ Rights (now book) (now tape) (now sets) (now scratch) ⌝ }
     requires { ⌜ (i ≤ length (now tape)) × (left ≡ leftAt (bookOf (now book)) (now tape) i) ⌝ }
+    requires { ⌜ Remembers (bookOf (now book)) (now steps) (now symbols) ⌝ }
     ensures { λ r. ⌜ r ≡ decidingAt (rulesIn (now (book .entry))) (now (tape .entry)) i d ⌝ }
+    ensures { λ _. ⌜ Remembers (bookOf (now (book .entry))) (now (steps .exit)) (now (symbols .exit)) ⌝ }
 {
     if i < d.end {
         return d;
     }
-    let t = taken_at(book, places, masks, rules, tape, sets, scratch, i, left);
+    let t = taken_at(
+        book,
+        places,
+        masks,
+        rules,
+        tape,
+        sets,
+        scratch,
+        i,
+        left,
+        steps,
+        symbols,
+    );
     Deciding {
         start: i,
         end: t.end,
@@ -216,6 +234,8 @@ pub fn write_lines(
     requires { ⌜ length (wordsIn (account (rulesIn (now book)) (now tape))) ≤ length (now lines) ⌝ }
     ensures { λ _. ⌜ now (lines .exit) ≡ onto (wordsIn (account (rulesIn (now (book .entry))) (now (tape .entry)))) (now (lines .entry)) ⌝ }
 {
+    let mut steps = [0u64; STEPS];
+    let mut symbols = [0u8; SLOTS];
     let mut d = Deciding {
         start: 0,
         end: 0,
@@ -226,7 +246,20 @@ pub fn write_lines(
     let mut i = 0;
     while i < tape.len() {
         let left = sets[k];
-        d = deciding_at(book, places, masks, rules, tape, sets, scratch, i, left, d);
+        d = deciding_at(
+            book,
+            places,
+            masks,
+            rules,
+            tape,
+            sets,
+            scratch,
+            i,
+            left,
+            d,
+            &mut steps,
+            &mut symbols,
+        );
         at = lines_at(
             book,
             places,

@@ -1,20 +1,23 @@
-// The output, position after position: its symbol is passed over inside a taken stretch, kept, or replaced by the word of a rule. Measured
-// before the first write, so that a refusal leaves the outputs as they were.
+// The output, position after position: its symbol is passed over inside a taken stretch, kept, or replaced by the word of a rule. Where it may
+// not fit it is measured before the first write, so that a refusal leaves the outputs as they were.
 use crate::outline::ALL_STARTS;
 use crate::outline::MASKS;
+use crate::walk::SLOTS;
+use crate::walk::STEPS;
 use crate::walk::left_step;
 use crate::walk::right_set;
 use crate::walk::taken_at;
 ghost use mathlib.Core.Path.{_≡_};
 ghost use Prim.Native.Nat.{_+_, _≤_, _<_};
 ghost use lib.ListN.{length, getD};
+ghost use Rattle.book.specs.Format.{mostRules};
 ghost use Rattle.book.specs.Reading.{wordAt, bookOf};
 ghost use Rattle.book.specs.Language.{rulesIn};
 ghost use Rattle.sets.specs.Sets.{leftAt};
 ghost use Rattle.rewriter.specs.Replies.{longestTape, onto};
 ghost use Rattle.rewriter.specs.Output.{rewriting, symbolsOf, originsOf};
-ghost use Rattle.rewriter.specs.Ready.{WordRoom, Lent, Ready, Rights};
-ghost use Rattle.rewriter.specs.Passes.{Shared, Sized, WordPut, KeptPut, Room, MarksPut};
+ghost use Rattle.rewriter.specs.Ready.{WordRoom, WordsAt, Lent, Ready, Rights, Remembers};
+ghost use Rattle.rewriter.specs.Passes.{mostMarks, Shared, Sized, WordPut, KeptPut, Room, MarksPut};
 
 // The length of the word in the rule's record at `from`; its symbols stand after it.
 fn word_length(book: &[u8], from: usize) -> usize
@@ -22,6 +25,24 @@ fn word_length(book: &[u8], from: usize) -> usize
     ensures { λ r. ⌜ r ≡ length (wordAt (now (book .entry)) from) ⌝ }
 {
     book[from + 1] as usize
+}
+
+// No more symbols than these stand for one position: those of the longest word, or the one that is kept.
+pub fn longest_word(book: &[u8], words: &[u16; book::RULES], rules: usize) -> usize
+    requires { ⌜ (rules ≡ length (bookOf (now book) .words)) × (rules ≤ mostRules) ⌝ }
+    requires { ⌜ WordsAt (now book) (bookOf (now book) .words) (now words) ⌝ }
+    ensures { λ r. ⌜ r ≡ mostMarks (rulesIn (now (book .entry))) ⌝ }
+{
+    let mut most = 1;
+    let mut r = 0;
+    while r < rules {
+        let n = word_length(book, words[r] as usize);
+        r += 1;
+        if most < n {
+            most = n;
+        }
+    }
+    most
 }
 
 // "every symbol of a replacement the start of the stretch"
@@ -32,7 +53,7 @@ fn word_origin(start: usize) -> u16
     start as u16
 }
 
-// Writes that word and its origins from `at` on; hands back where the next symbol is written.
+// Writes the word in the rule's record at `from`, and its origins, from `at` on; hands back where the next symbol is written.
 fn put_word(
     book: &[u8],
     from: usize,
@@ -76,11 +97,15 @@ fn share_of(
     i: usize,
     end: usize,
     left: u64,
+    steps: &mut [u64; STEPS],
+    symbols: &mut [u8; SLOTS],
 ) -> Share
     requires { ⌜ Lent (now book) rules (now places) (now masks) (now words) ⌝ }
     requires { ⌜ Rights (now book) (now tape) (now sets) (now scratch) ⌝ }
     requires { ⌜ (i < length (now tape)) × (left ≡ leftAt (bookOf (now book)) (now tape) i) ⌝ }
-    ensures { λ r. ⌜ Shared (rulesIn (now (book .entry))) (now (tape .entry)) i end (r .length) (r .end) (r .taken) ⌝ }
+    requires { ⌜ Remembers (bookOf (now book)) (now steps) (now symbols) ⌝ }
+    ensures { λ r. ⌜ Shared (rulesIn (now (book .entry))) (now (tape .entry)) i 0 end 0 (r .length) (r .end) (r .taken) ⌝ }
+    ensures { λ _. ⌜ Remembers (bookOf (now (book .entry))) (now (steps .exit)) (now (symbols .exit)) ⌝ }
 {
     if i < end {
         return Share {
@@ -96,7 +121,19 @@ fn share_of(
             taken: 0,
         }; // no focus starts here: most positions
     }
-    let t = taken_at(book, places, masks, rules, tape, sets, scratch, i, left);
+    let t = taken_at(
+        book,
+        places,
+        masks,
+        rules,
+        tape,
+        sets,
+        scratch,
+        i,
+        left,
+        steps,
+        symbols,
+    );
     let stop = t.end;
     let rule = t.rule;
     if stop == i {
@@ -134,6 +171,8 @@ pub fn measure(
     requires { ⌜ Ready (now book) (now tape) (now rows) (now sets) (now scratch) ⌝ }
     ensures { λ r. ⌜ Sized (rulesIn (now (book .entry))) (now (tape .entry)) (r .length) (r .taken) ⌝ }
 {
+    let mut steps = [0u64; STEPS];
+    let mut symbols = [0u8; SLOTS];
     let mut length = 0;
     let mut taken = 0;
     let mut end = 0;
@@ -152,6 +191,8 @@ pub fn measure(
             i,
             end,
             sets[k],
+            &mut steps,
+            &mut symbols,
         );
         length += s.length;
         taken += s.taken;
@@ -162,20 +203,25 @@ pub fn measure(
     Size { length, taken }
 }
 
-// Where the next symbol is written, and where the last stretch ends.
+// Where the next symbol is written, where the last stretch ends, and how many are taken.
 pub struct Spot {
     pub at: usize,
     pub end: usize,
+    pub taken: usize,
 }
 
 // Writes a kept symbol: "a kept symbol its own position".
-fn keep(tape: &[u8], i: usize, out: &mut [u8], origins: &mut [u16], at: usize) -> Spot
+fn keep(tape: &[u8], i: usize, out: &mut [u8], origins: &mut [u16], at: usize, taken: usize) -> Spot
     requires { ⌜ (i < length (now tape)) × (i < longestTape) × (at < length (now out)) × (at < length (now origins)) ⌝ }
-    ensures { λ r. ⌜ KeptPut (getD (now (tape .entry)) i 0) i at (now (out .entry)) (now (origins .entry)) (r .at) (r .end) (now (out .exit)) (now (origins .exit)) ⌝ }
+    ensures { λ r. ⌜ KeptPut (getD (now (tape .entry)) i 0) i at taken (now (out .entry)) (now (origins .entry)) (r .at) (r .end) (r .taken) (now (out .exit)) (now (origins .exit)) ⌝ }
 {
     out[at] = tape[i];
     origins[at] = i as u16;
-    Spot { at: at + 1, end: i }
+    Spot {
+        at: at + 1,
+        end: i,
+        taken,
+    }
 }
 
 // Writes what stands for one position.
@@ -191,37 +237,56 @@ fn place(
     i: usize,
     left: u64,
     s: Spot,
+    steps: &mut [u64; STEPS],
+    symbols: &mut [u8; SLOTS],
     out: &mut [u8],
     origins: &mut [u16],
 ) -> Spot
     requires { ⌜ Lent (now book) rules (now places) (now masks) (now words) ⌝ }
     requires { ⌜ Rights (now book) (now tape) (now sets) (now scratch) ⌝ }
-    requires { ⌜ (i < length (now tape)) × (i < longestTape) × (left ≡ leftAt (bookOf (now book)) (now tape) i) ⌝ }
+    requires { ⌜ (i < length (now tape)) × (i < longestTape) × (left ≡ leftAt (bookOf (now book)) (now tape) i) × (s .taken ≤ longestTape) ⌝ }
     requires { ⌜ Room (rulesIn (now book)) (now tape) i (s .at) (s .end) (now out) (now origins) ⌝ }
-    ensures { λ r. ⌜ MarksPut (rulesIn (now (book .entry))) (now (tape .entry)) i (s .at) (s .end) (now (out .entry)) (now (origins .entry)) (r .at) (r .end) (now (out .exit)) (now (origins .exit)) ⌝ }
+    requires { ⌜ Remembers (bookOf (now book)) (now steps) (now symbols) ⌝ }
+    ensures { λ r. ⌜ MarksPut (rulesIn (now (book .entry))) (now (tape .entry)) i (s .at) (s .end) (s .taken) (now (out .entry)) (now (origins .entry)) (r .at) (r .end) (r .taken) (now (out .exit)) (now (origins .exit)) ⌝ }
+    ensures { λ _. ⌜ Remembers (bookOf (now (book .entry))) (now (steps .exit)) (now (symbols .exit)) ⌝ }
 {
     let at = s.at;
     let end = s.end;
+    let taken = s.taken;
     if i < end {
-        return Spot { at, end };
+        return Spot { at, end, taken };
     }
     if right_set(sets, scratch, i) & masks[ALL_STARTS] == 0 {
-        return keep(tape, i, out, origins, at); // no focus starts here: most positions
+        return keep(tape, i, out, origins, at, taken); // no focus starts here: most positions
     }
-    let t = taken_at(book, places, masks, rules, tape, sets, scratch, i, left);
+    let t = taken_at(
+        book,
+        places,
+        masks,
+        rules,
+        tape,
+        sets,
+        scratch,
+        i,
+        left,
+        steps,
+        symbols,
+    );
     let stop = t.end;
     let rule = t.rule;
     if stop == i { // nothing is taken here
-        return keep(tape, i, out, origins, at);
+        return keep(tape, i, out, origins, at, taken);
     }
     let next = put_word(book, words[rule] as usize, i, out, origins, at);
+    let many = taken + 1;
     Spot {
         at: next,
         end: stop,
+        taken: many,
     }
 }
 
-// The writing pass, where there is room for the whole output.
+// The writing pass, where there is room for the whole output; it counts as it writes.
 pub fn forward(
     book: &[u8],
     places: &[u16; book::STATES],
@@ -234,15 +299,19 @@ pub fn forward(
     scratch: &[u8],
     out: &mut [u8],
     origins: &mut [u16],
-)
+) -> Size
     requires { ⌜ Lent (now book) rules (now places) (now masks) (now words) ⌝ }
     requires { ⌜ Ready (now book) (now tape) (now rows) (now sets) (now scratch) ⌝ }
     requires { ⌜ (length (rewriting (rulesIn (now book)) (now tape)) ≤ length (now out)) × (length (rewriting (rulesIn (now book)) (now tape)) ≤ length (now origins)) ⌝ }
+    ensures { λ r. ⌜ Sized (rulesIn (now (book .entry))) (now (tape .entry)) (r .length) (r .taken) ⌝ }
     ensures { λ _. ⌜ now (out .exit) ≡ onto (symbolsOf (rewriting (rulesIn (now (book .entry))) (now (tape .entry)))) (now (out .entry)) ⌝ }
     ensures { λ _. ⌜ now (origins .exit) ≡ onto (originsOf (rewriting (rulesIn (now (book .entry))) (now (tape .entry)))) (now (origins .entry)) ⌝ }
 {
+    let mut steps = [0u64; STEPS];
+    let mut symbols = [0u8; SLOTS];
     let mut at = 0;
     let mut end = 0;
+    let mut taken = 0;
     let mut k = 0;
     let mut i = 0;
     while i < tape.len() {
@@ -257,13 +326,17 @@ pub fn forward(
             scratch,
             i,
             sets[k],
-            Spot { at, end },
+            Spot { at, end, taken },
+            &mut steps,
+            &mut symbols,
             out,
             origins,
         );
         at = r.at;
         end = r.end;
+        taken = r.taken;
         k = left_step(rows, k, tape[i]);
         i += 1;
     }
+    Size { length: at, taken }
 }

@@ -4,13 +4,16 @@ use crate::outline::MASKS;
 use crate::outline::outline_of;
 use crate::outline::place_words;
 use crate::output::forward;
+use crate::output::longest_word;
 use crate::output::measure;
 ghost use mathlib.Core.Path.{_≡_};
+ghost use Prim.Native.Nat.{min};
 ghost use lib.ListN.{length};
 ghost use Rattle.book.specs.Reading.{bookOf};
 ghost use Rattle.book.specs.Language.{rulesIn};
 ghost use Rattle.rewriter.specs.Replies.{tapeLeaves, tapeDef};
 ghost use Rattle.rewriter.specs.Ready.{Lent, Ready};
+ghost use Rattle.rewriter.specs.Passes.{neededPast};
 
 // Refused with 15 and nothing written where an output buffer is too short.
 fn no_room(length: usize) -> Rewritten
@@ -24,7 +27,45 @@ fn no_room(length: usize) -> Rewritten
     }
 }
 
-// Measures, then writes.
+// The room for an output is that of the shorter of its two buffers.
+fn room_of(out: usize, origins: usize) -> usize
+    ensures { λ r. ⌜ r ≡ min out origins ⌝ }
+{
+    if origins < out {
+        return origins;
+    }
+    out
+}
+
+// The symbols that the output needs where it is longer than the room, else 0. It is measured only where the longest possible output is longer.
+fn needed(
+    book: &[u8],
+    places: &[u16; book::STATES],
+    masks: &[u64; MASKS],
+    words: &[u16; book::RULES],
+    rules: usize,
+    tape: &[u8],
+    rows: &[u8],
+    sets: &[u64],
+    scratch: &[u8],
+    room: usize,
+) -> usize
+    requires { ⌜ Lent (now book) rules (now places) (now masks) (now words) ⌝ }
+    requires { ⌜ Ready (now book) (now tape) (now rows) (now sets) (now scratch) ⌝ }
+    ensures { λ r. ⌜ r ≡ neededPast (rulesIn (now (book .entry))) (now (tape .entry)) room ⌝ }
+{
+    if tape.len() * longest_word(book, words, rules) <= room {
+        return 0;
+    }
+    let size = measure(book, places, masks, words, rules, tape, rows, sets, scratch);
+    let length = size.length;
+    if length <= room {
+        return 0;
+    }
+    length
+}
+
+// Writes where there is room.
 fn both<'a>(
     book: &[u8],
     places: &'a [u16; book::STATES],
@@ -42,15 +83,23 @@ fn both<'a>(
     requires { ⌜ Ready (now book) (now tape) (now rows) (now sets) (now scratch) ⌝ }
     ensures { λ r. ⌜ tapeLeaves r (now (out .exit)) (now (origins .exit)) ≡ tapeDef (rulesIn (now (book .entry))) (now (tape .entry)) (now (out .entry)) (now (origins .entry)) ⌝ }
 {
-    let size = measure(book, places, masks, words, rules, tape, rows, sets, scratch);
-    let length = size.length;
-    if out.len() < length {
-        return no_room(length);
+    let room = room_of(out.len(), origins.len());
+    let symbols = needed(
+        book,
+        places,
+        masks,
+        words,
+        rules,
+        tape,
+        rows,
+        sets,
+        scratch,
+        room,
+    );
+    if symbols != 0 {
+        return no_room(symbols);
     }
-    if origins.len() < length {
-        return no_room(length);
-    }
-    forward(
+    let size = forward(
         book,
         places,
         masks,
@@ -66,7 +115,7 @@ fn both<'a>(
     Rewritten {
         reply: 0,
         place: 0,
-        length,
+        length: size.length,
         taken: size.taken,
     }
 }

@@ -22,7 +22,8 @@ pub(crate) fn backward(tape: &[u8], rows: &[u8], scratch: &mut [u8])
     scratch[i] = 0;
     while 0 < i {
         i -= 1;
-        number = rows[sets::PAIRS + number as usize * sets::ROW + tape[i] as usize];
+        let column = sets::PAIRS + tape[i] as usize;
+        number = rows[column + number as usize * sets::ROW];
         scratch[i] = number;
     }
 }

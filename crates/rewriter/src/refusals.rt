@@ -2,7 +2,7 @@
 ghost use mathlib.Core.Path.{_≡_};
 ghost use Rattle.book.specs.Reading.{checkDef};
 ghost use Rattle.rewriter.specs.Replies.{refusal, firstBad, early};
-ghost use Rattle.rewriter.specs.Opening.{opened};
+ghost use Rattle.rewriter.specs.Opening.{greatest, opened};
 use super::Refusal;
 use super::TAPE;
 
@@ -22,10 +22,29 @@ pub(crate) fn answer(reply: u8, place: usize, rules: usize) -> Opened
     }
 }
 
-// The first place of the tape whose symbol is none, or the tape's length.
+// The greatest symbol of the tape, 0 for none: a loop without a way out, so that many symbols are looked at in one step.
+fn greatest(tape: &[u8]) -> u8
+    ensures { λ r. ⌜ r ≡ greatest 0 (now (tape .entry)) ⌝ }
+{
+    let mut top: u8 = 0;
+    let mut i = 0;
+    while i < tape.len() {
+        let symbol = tape[i];
+        i += 1;
+        if top < symbol {
+            top = symbol;
+        }
+    }
+    top
+}
+
+// The first place of the tape whose symbol is none, or the tape's length. Only a tape that has such a place is searched for it.
 fn first_bad(tape: &[u8]) -> usize
     ensures { λ r. ⌜ r ≡ firstBad (now (tape .entry)) ⌝ }
 {
+    if greatest(tape) < book::SYMBOLS {
+        return tape.len();
+    }
     let mut i = 0;
     while i < tape.len() {
         if book::SYMBOLS <= tape[i] {

@@ -11,13 +11,14 @@ ghost use mathlib.Core.Path.{_≡_};
 ghost use Prim.Native.Nat.{_+_, _*_, _≤_, _<_};
 ghost use lib.ListN.{length, getD};
 ghost use Rattle.book.specs.Format.{symbolCount, mostRules};
-ghost use Rattle.book.specs.Reading.{bookOf};
+ghost use Rattle.book.specs.Reading.{checkDef, bookOf};
 ghost use Rattle.book.specs.Language.{rulesIn};
+ghost use Rattle.book.specs.Outline.{Placed};
 ghost use Rattle.sets.specs.Sets.{leftAt, focusFirst};
-ghost use Rattle.sets.specs.Stepping.{joins};
+ghost use Rattle.sets.specs.Stepping.{stepFold, joins};
 ghost use Rattle.sets.specs.Numbering.{mostSets};
 ghost use Rattle.sets.specs.Workspace.{rowBytes, setWords};
-ghost use Rattle.rewriter.specs.Ready.{leftAccepts, focusStarts, Tests, Outlined, Rights};
+ghost use Rattle.rewriter.specs.Ready.{leftAccepts, focusStarts, Tests, Outlined, Rights, slotCount, Remembers};
 ghost use Rattle.rewriter.specs.Passes.{hits, hitRule, Takes};
 
 // The number that is no rule's.
@@ -36,7 +37,7 @@ pub fn left_step(rows: &[u8], k: usize, symbol: u8) -> usize
     requires { ⌜ (k < mostSets) × (symbol < symbolCount) × (rowBytes ≤ length (now rows)) ⌝ }
     ensures { λ r. ⌜ r ≡ getD (now (rows .entry)) (symbolCount * k + symbol) 0 ⌝ }
 {
-    rows[sets::ROW * k + symbol as usize] as usize
+    rows[symbol as usize + sets::ROW * k] as usize
 }
 
 // The focus starts of a rule whose left context holds.
@@ -107,6 +108,50 @@ pub fn rule_hit(book: &[u8], masks: &[u64; MASKS], rules: usize, set: u64, right
     NO_RULE
 }
 
+// How many steps of the focus a pass over a tape remembers: on real tapes the same few come again and again.
+pub const SLOTS: usize = 16;
+
+// The words of the remembered steps: the set before step k stands at k, and the set after it at AFTER + k. Its symbol stands beside them, in an
+// array of bytes. At first they are steps of the empty set.
+pub const STEPS: usize = SLOTS + SLOTS;
+
+const AFTER: usize = SLOTS;
+
+// Where the step of a set on a symbol is looked for, and put: sets with another lowest state, or on another symbol, seldom share a place.
+fn slot_of(set: u64, symbol: u8) -> usize
+    ensures { λ r. ⌜ r < slotCount ⌝ }
+{
+    (2 * u64::trailing_zeros(set) as usize + symbol as usize) % SLOTS
+}
+
+// The step of a set, remembered or computed.
+fn remembered(
+    book: &[u8],
+    places: &[u16; book::STATES],
+    steps: &mut [u64; STEPS],
+    symbols: &mut [u8; SLOTS],
+    set: u64,
+    symbol: u8,
+) -> u64
+    requires { ⌜ checkDef (now book) .reply ≡ 0 ⌝ }
+    requires { ⌜ Placed (bookOf (now book) .states) (now places) ⌝ }
+    requires { ⌜ Remembers (bookOf (now book)) (now steps) (now symbols) ⌝ }
+    ensures { λ r. ⌜ r ≡ stepFold (bookOf (now (book .entry)) .arcs) set symbol ⌝ }
+    ensures { λ _. ⌜ Remembers (bookOf (now (book .entry))) (now (steps .exit)) (now (symbols .exit)) ⌝ }
+{
+    let slot = slot_of(set, symbol);
+    if steps[slot] == set {
+        if symbols[slot] == symbol {
+            return steps[AFTER + slot];
+        }
+    }
+    let after = sets::stepping::focus_step(book, places, set, symbol);
+    steps[slot] = set;
+    symbols[slot] = symbol;
+    steps[AFTER + slot] = after;
+    after
+}
+
 // What is taken at a free position: where the longest candidate ends, and its lowest rule; the position itself and 0 where there is none.
 pub struct Taken {
     pub end: usize,
@@ -123,11 +168,15 @@ pub fn taken_at(
     scratch: &[u8],
     from: usize,
     left: u64,
+    steps: &mut [u64; STEPS],
+    symbols: &mut [u8; SLOTS],
 ) -> Taken
     requires { ⌜ Outlined (bookOf (now book)) rules (now places) (now masks) ⌝ }
     requires { ⌜ Rights (now book) (now tape) (now sets) (now scratch) ⌝ }
     requires { ⌜ (from ≤ length (now tape)) × (left ≡ leftAt (bookOf (now book)) (now tape) from) ⌝ }
+    requires { ⌜ Remembers (bookOf (now book)) (now steps) (now symbols) ⌝ }
     ensures { λ r. ⌜ Takes (rulesIn (now (book .entry))) (now (tape .entry)) from (r .end) (r .rule) ⌝ }
+    ensures { λ _. ⌜ Remembers (bookOf (now (book .entry))) (now (steps .exit)) (now (symbols .exit)) ⌝ }
 {
     let mut set = focus_first(book, masks, rules, left, right_set(sets, scratch, from));
     let mut end = from;
@@ -138,7 +187,7 @@ pub fn taken_at(
             return Taken { end, rule };
         }
         let right = right_set(sets, scratch, j + 1);
-        set = sets::stepping::focus_next(book, places, set, tape[j], right);
+        set = remembered(book, places, steps, symbols, set, tape[j]) & right;
         j += 1;
         let hit = rule_hit(book, masks, rules, set, right);
         if hit != NO_RULE {

@@ -10,8 +10,8 @@ use Rattle.sets.specs.Sides.{Clear, Numbered}
 use Rattle.sets.proofs.Pad.{take-pad, getD-pad, set-pad, length-pad}
 use native.Mathlib.Numerals.{add-one}
 use native.Mathlib.Nat.{add-zero}
-use lib.Seq.{getD-set-other, length-take-le}
-use Rattle.sets.proofs.Idx.{idx-le}
+use lib.Seq.{getD-set-other, length-take-le, take-suc-set}
+use Rattle.sets.proofs.Idx.{idx-le, idx-same, idx-snoc}
 use Rattle.sets.proofs.Turns.{Turned, idle, old, new, ran, all-more, all-done}
 
 pub record At (f : ℕ → ℕ → ℕ) (s j : ℕ) (R S : List ℕ) (n : ℕ) : Type 0 where
@@ -136,62 +136,91 @@ too-many f s R S h =
       sets = λ l. absurd (let z : ⊥ = omega arith in z);
     }
 
--- inside row k, before symbol a: z is set k
-pub record In (f : ℕ → ℕ → ℕ) (s k a z : ℕ) (R S : List ℕ) (n : ℕ) : Type 0 where
-  pub at : At f s (symbolCount * k + a) R S n
-  pub more : k < n
-  pub below : a ≤ symbolCount
-  pub here : z ≡ getD S k 0
+-- the number of the last step's set is at hand: `close` makes the set of a step
+module _ (f : ℕ → ℕ → ℕ) (close : ℕ → ℕ) (s : ℕ) where
+  -- before row k
+  pub record Before (k : ℕ) (R S : List ℕ) (n last number : ℕ) : Type 0 where
+    pub at : At f s (symbolCount * k) R S n
+    pub reached : k ≤ n
+    pub known : number ≡ idx (take n S) (close last)
 
-pub in-first : (f : ℕ → ℕ → ℕ) (s k : ℕ) (R S : List ℕ) (n : ℕ) → At f s (symbolCount * k) R S n → k < n → In f s k 0 (getD S k 0) R S n
-in-first f s k R S n at h = record { at = rw add-zero at; more = h; below = zero-le; here = refl }
+  -- inside row k, before symbol a: the row has the steps of set k
+  pub record In (k a : ℕ) (row R S : List ℕ) (n last number : ℕ) : Type 0 where
+    pub at : At f s (symbolCount * k + a) R S n
+    pub more : k < n
+    pub below : a ≤ symbolCount
+    pub here : (i : ℕ) → i < symbolCount → close (getD row i 0) ≡ f (getD S k 0) i
+    pub known : number ≡ idx (take n S) (close last)
 
-pub in-last : (f : ℕ → ℕ → ℕ) (s k a z : ℕ) (R S : List ℕ) (n : ℕ) → In f s k a z R S n → symbolCount ≤ a → At f s (symbolCount * (k + 1)) R S n
-in-last f s k a z R S n w h =
-    let b = w .below in
-    let e : symbolCount * k + a ≡ symbolCount * (k + 1) = omega arith in
-    subst (λ (j : ℕ). At f s j R S n) e (w .at)
+  pub before-first : (R S : List ℕ) (x : ℕ) → Clear R S → x ≡ close 0 → x ≡ s → Before 0 R (set S 0 x) 1 0 0
+  before-first R S x clear e q =
+      record {
+        at = rw q (started f s R S clear);
+        reached = omega arith;
+        known = sym (rw (take-suc-set S 0 x (omega (arith, clear-sets R S clear))) (idx-same x [] (close 0) e));
+      }
 
-module _ (f : ℕ → ℕ → ℕ) (s k a z : ℕ) (R S : List ℕ) (n : ℕ) (w : In f s k a z R S n) (ha : a < symbolCount)
-    (x m : ℕ) (ex : x ≡ f z a) (em : m ≡ idx (take n S) x) where
-  at-next : (S′ : List ℕ) (n′ : ℕ) → At f s (symbolCount * k + a + 1) (set R (symbolCount * k + a) m) S′ n′
-      → At f s (symbolCount * k + (a + 1)) (set R (symbolCount * k + a) m) S′ n′
-  at-next S′ n′ at =
-      let e : symbolCount * k + a + 1 ≡ symbolCount * k + (a + 1) = omega arith in
-      subst (λ (j : ℕ). At f s j (set R (symbolCount * k + a) m) S′ n′) e at
+  pub in-first : (k : ℕ) (row R S : List ℕ) (n last number : ℕ) → Before k R S n last number → (k ≡ n → ⊥)
+      → ((i : ℕ) → i < symbolCount → close (getD row i 0) ≡ f (getD S k 0) i) → In k 0 row R S n last number
+  in-first k row R S n last number b ne h = record { at = rw add-zero (b .at); more = omega (arith, b); below = zero-le; here = h; known = b .known }
 
-  number-le : m ≤ n
-  number-le = let l : length (take n S) ≡ n = length-take-le n S (omega (arith, w)) in omega (arith, idx-le (take n S) x)
+  pub in-last : (k a : ℕ) (row R S : List ℕ) (n last number : ℕ) → In k a row R S n last number → symbolCount ≤ a → Before (k + 1) R S n last number
+  in-last k a row R S n last number w h =
+      let b = w .below in
+      let e : symbolCount * k + a ≡ symbolCount * (k + 1) = omega arith in
+      record { at = subst (λ (j : ℕ). At f s j R S n) e (w .at); reached = omega (arith, w .more); known = w .known }
 
-  -- a number that is written is below the most
-  pub new-small : m ≡ n → (n ≡ mostSets → ⊥) → m < mostSets
-  new-small e ne = omega (arith, w .at .small)
+  module _ (k a : ℕ) (row R S : List ℕ) (n last number : ℕ) (w : In k a row R S n last number) (ha : a < symbolCount)
+      (m : ℕ) (em : m ≡ idx (take n S) (close (getD row a 0))) where
+    at-next : (S′ : List ℕ) (n′ : ℕ) → At f s (symbolCount * k + a + 1) (set R (symbolCount * k + a) m) S′ n′
+        → At f s (symbolCount * k + (a + 1)) (set R (symbolCount * k + a) m) S′ n′
+    at-next S′ n′ at =
+        let e : symbolCount * k + a + 1 ≡ symbolCount * k + (a + 1) = omega arith in
+        subst (λ (j : ℕ). At f s j (set R (symbolCount * k + a) m) S′ n′) e at
 
-  pub old-small : (m ≡ n → ⊥) → m < mostSets
-  old-small ne = omega (arith, w .at .small, number-le)
+    taken : length (take n S) ≡ n
+    taken = length-take-le n S (omega (arith, w .at .small, w .at .room))
 
-  stepped : x ≡ f (getD S k 0) a
-  stepped = ex ∙ ap (λ (y : ℕ). f y a) (w .here)
+    number-le : m ≤ n
+    number-le = omega (arith, taken, idx-le (take n S) (close (getD row a 0)))
 
-  pub in-new : (S′ : List ℕ) (n′ : ℕ) → m ≡ n → (n ≡ mostSets → ⊥) → S′ ≡ set S n x → n′ ≡ n + 1 → In f s k (a + 1) z (set R (symbolCount * k + a) m) S′ n′
-  in-new S′ n′ e ne eS en =
-      rw (eS, en)
-      (record {
-        at = at-next (set S n x) (n + 1) (new-set f s (symbolCount * k + a) R S n (w .at) k a refl ha (w .more) x m stepped em e (omega (arith, w)));
-        more = omega (arith, w);
-        below = omega arith;
-        here = w .here ∙ sym (getD-set-other S n k x 0 (omega (arith, w)));
-      })
+    -- a number that is written is below the most
+    pub new-small : m ≡ n → (n ≡ mostSets → ⊥) → m < mostSets
+    new-small e ne = omega (arith, w .at .small)
 
-  pub in-old : (S′ : List ℕ) (n′ : ℕ) → (m ≡ n → ⊥) → S′ ≡ S → n′ ≡ n → In f s k (a + 1) z (set R (symbolCount * k + a) m) S′ n′
-  in-old S′ n′ ne eS en =
-      rw (eS, en)
-      (record {
-        at = at-next S n (old-set f s (symbolCount * k + a) R S n (w .at) k a refl ha (w .more) x m stepped em ne);
-        more = w .more;
-        below = omega arith;
-        here = w .here;
-      })
+    pub old-small : (m ≡ n → ⊥) → m < mostSets
+    old-small ne = omega (arith, w .at .small, number-le)
 
-  pub in-full : m ≡ n → n ≡ mostSets → mostSets < length ((all f s) .sets)
-  in-full e q = full f s (symbolCount * k + a) R S n (w .at) k a refl ha (w .more) x m stepped em e q
+    pub in-new : (x : ℕ) → x ≡ close (getD row a 0) → (S′ : List ℕ) (n′ : ℕ) → m ≡ n → (n ≡ mostSets → ⊥) → S′ ≡ set S n x → n′ ≡ n + 1
+        → In k (a + 1) row (set R (symbolCount * k + a) m) S′ n′ (getD row a 0) m
+    in-new x ex S′ n′ e ne eS en =
+        rw (eS, en)
+        (record {
+          at = at-next (set S n x) (n + 1) (new-set f s (symbolCount * k + a) R S n (w .at) k a refl ha (w .more) x m (ex ∙ w .here a ha) (em ∙ ap (idx (take n S)) (sym ex)) e room);
+          more = omega (arith, w .more);
+          below = omega arith;
+          here = λ i h. w .here i h ∙ ap (λ (z : ℕ). f z i) (sym (getD-set-other S n k x 0 (omega (arith, w .more))));
+          known = grown;
+        })
+      where
+        room : n < mostSets
+        room = omega (arith, w .at .small)
+
+        grown : m ≡ idx (take (n + 1) (set S n x)) (close (getD row a 0))
+        grown =
+            rw (add-one, take-suc-set S n x (omega (arith, w .at .room)))
+            (e ∙ sym taken ∙ sym (idx-snoc (take n S) x (ap (idx (take n S)) ex ∙ sym em ∙ e ∙ sym taken)) ∙ ap (idx (take n S ++ (x ∷ []))) ex)
+
+    pub in-old : (S′ : List ℕ) (n′ : ℕ) → (m ≡ n → ⊥) → S′ ≡ S → n′ ≡ n → In k (a + 1) row (set R (symbolCount * k + a) m) S′ n′ (getD row a 0) m
+    in-old S′ n′ ne eS en =
+        rw (eS, en)
+        (record {
+          at = at-next S n (old-set f s (symbolCount * k + a) R S n (w .at) k a refl ha (w .more) (close (getD row a 0)) m (w .here a ha) em ne);
+          more = w .more;
+          below = omega arith;
+          here = w .here;
+          known = em;
+        })
+
+    pub in-full : m ≡ n → n ≡ mostSets → mostSets < length ((all f s) .sets)
+    in-full e q = full f s (symbolCount * k + a) R S n (w .at) k a refl ha (w .more) (close (getD row a 0)) m (w .here a ha) em e q

@@ -22,7 +22,7 @@ use Rattle.book.proofs.Bits.{member-or, member-and, member-none, member-encode,
 use Rattle.book.proofs.Masking.{no-state}
 use Rattle.book.proofs.Tests.{same-test, any-up}
 use Rattle.sets.specs.Sets.{setOf, intoBy, backBy, leftFirst, leftNext, near, closed, rightLast, rightPrev, focusFirst, focusNext}
-use Rattle.sets.specs.Stepping.{leaves, turned, stepArcs, joins, gather}
+use Rattle.sets.specs.Stepping.{leaves, stepFold, turned, stepArcs, joins, gather}
 use Rattle.sets.proofs.Folds.{member-step}
 
 -- the members of a set, for every number
@@ -286,9 +286,15 @@ focus-first b L R S A o ms ma =
     K′ : ℕ → Bool
     K′ k = someState b (λ (p : ℕ). isAccept b (stateOf b k .rule) 0 p && member L p)
 
-pub focus-next : (b : Book) (F c R : ℕ) → Sound b → bitAnd (stepArcs 1 4 (b .arcs) F c) R ≡ focusNext b F c R
-unfolding focusNext
-focus-next b F c R o =
-    ext _ _ (λ s. member-and (stepArcs 1 4 (b .arcs) F c) R s
-    ∙ ap (λ (p : Bool). p && member R s) (member-into b F c s)
-    ∙ sym (member-of b o (λ k. intoBy b F c k && member R k) (λ k h. ap (λ (p : Bool). p && member R k) (into-past b F c k o h)) s))
+-- an arc read forwards is itself
+forwards : (arcs : List Arc) → map (turned 1 4) arcs ≡ arcs
+unfolding turned
+forwards [] = refl
+forwards (x ∷ arcs) = ap (λ (l : List Arc). x ∷ l) (forwards arcs)
+
+pub focus-pruned : (b : Book) (F a R : ℕ) → Sound b → bitAnd (stepFold (b .arcs) F a) R ≡ focusNext b F a R
+unfolding focusNext stepArcs
+focus-pruned b F a R o =
+    ext _ _ (λ s. member-and (stepFold (b .arcs) F a) R s
+    ∙ ap (λ (p : Bool). p && member R s) (ap (λ (l : List Arc). member (stepFold l F a) s) (sym (forwards (b .arcs))) ∙ member-into b F a s)
+    ∙ sym (member-of b o (λ k. intoBy b F a k && member R k) (λ k h. ap (λ (p : Bool). p && member R k) (into-past b F a k o h)) s))

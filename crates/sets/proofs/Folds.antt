@@ -2,7 +2,7 @@
 use mathlib.Core.Path.{_≡_, refl, sym, ap, ap₂, _∙_}
 use Prim.Native.Nat.{ℕ, _-_, _^_, _<_}
 use mathlib.Core.Bool.{Bool, true, false, cond, _&&_, _||_}
-use mathlib.Core.List.{List, [], _∷_}
+use mathlib.Core.List.{List, [], _∷_, _++_}
 use lib.Dec.{eqb, leb}
 use lib.Bits.{bitOr, bitAnd, or-zero-r}
 use lib.Count.{trailingZeros}
@@ -56,19 +56,12 @@ module _ (c : ℕ) where
   step-none (a ∷ rest) =
       ap₂ (λ (m : Bool) (r : ℕ). bitOr (cond (m && (leb (a .low) c && leb c (a .high))) (2 ^ a .to) 0) r) (member-none (a .from)) (step-none rest)
 
--- ---- a loop that takes the lowest state away, over any arcs: what is done and what is left make the whole
+-- one arc more
+pub step-snoc : (arcs : List Arc) (arc : Arc) (x a : ℕ) → stepFold (arcs ++ (arc ∷ [])) x a ≡ bitOr (stepFold arcs x a) (hopFold arc x a)
+unfolding stepFold
+step-snoc [] arc x a = or-zero-r (hopFold arc x a)
+step-snoc (y ∷ arcs) arc x a = ap (bitOr (hopFold y x a)) (step-snoc arcs arc x a) ∙ sym (or-assoc (hopFold y x a) (stepFold arcs x a) (hopFold arc x a))
 
-pub step-turn : (arcs : List Arc) (left out r c T : ℕ) → 0 < left → left < 2 ^ 64 → r ≡ stepFold arcs (2 ^ trailingZeros 64 left) c
-    → bitOr out (stepFold arcs left c) ≡ T → bitOr (bitOr out r) (stepFold arcs (bitAnd left (left - 1)) c) ≡ T
-step-turn arcs left out r c T h k e inv =
-    let t = trailingZeros 64 left in
-    or-assoc out r (stepFold arcs (bitAnd left (left - 1)) c)
-    ∙ ap (bitOr out) (
-    ap (λ (x : ℕ). bitOr x (stepFold arcs (bitAnd left (left - 1)) c)) e
-    ∙ sym (step-or c arcs (2 ^ t) (bitAnd left (left - 1)))
-    ∙ ap (λ (x : ℕ). stepFold arcs x c) (lowest-or 64 left t (lowest 64 left h k))
-    )
-    ∙ inv
-
+-- where nothing is left, what is out is the whole
 pub step-end : (arcs : List Arc) (left out c T : ℕ) → left ≡ 0 → bitOr out (stepFold arcs left c) ≡ T → out ≡ T
 step-end arcs left out c T e inv = sym (ap (λ (x : ℕ). bitOr out (stepFold arcs x c)) e ∙ ap (bitOr out) (step-none c arcs) ∙ or-zero-r out) ∙ inv

@@ -1,5 +1,6 @@
 pub mod Folds
-pub mod OwnRule
+pub mod Sweep
+pub mod Rows
 pub mod Closing
 pub mod Idx
 pub mod Pad

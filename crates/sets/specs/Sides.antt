@@ -5,7 +5,7 @@ use mathlib.Core.Bool.{Bool, cond}
 use mathlib.Core.List.{List, []}
 use lib.ListN.{length, take, drop}
 use Rattle.book.specs.Reading.{Book}
-use Rattle.book.specs.Outline.{Placed, EachMask, allMask}
+use Rattle.book.specs.Outline.{EachMask, allMask}
 use Rattle.sets.specs.Sets.{leftFirst, leftNext, rightLast, rightPrev}
 use Rattle.sets.specs.Numbering.{mostSets, pairs, Table, all, pad}
 
@@ -25,11 +25,6 @@ pub record SideMasks (b : Book) (lefts rights : ℕ) (starts ends : List ℕ) : 
   pub right-accepts : rights ≡ allMask 2 2 (b .states)
   pub right-starts : EachMask 2 1 (b .states) starts
   pub focus-accepts : EachMask 1 2 (b .states) ends
-
--- and where each state's record stands
-pub record Outlined (b : Book) (places : List ℕ) (lefts rights : ℕ) (starts ends : List ℕ) : Type 0 where
-  pub placed : Placed (b .states) places
-  pub masks : SideMasks b lefts rights starts ends
 
 -- the rows and the sets of a side, all 0
 pub record Clear (R S : List ℕ) : Type 0 where

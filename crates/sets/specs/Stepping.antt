@@ -3,13 +3,14 @@
 use Prim.Native.Nat.{ℕ, zero, suc, _+_, _^_, _≤_, _<_}
 use mathlib.Core.Path.{_≡_}
 use mathlib.Core.List.{List, [], _∷_, map}
-use mathlib.Core.Bool.{Bool, cond, _&&_, _||_}
+use mathlib.Core.Bool.{Bool, true, cond, _&&_, _||_}
 use lib.Dec.{leb, eqb}
 use lib.Bits.{bitOr, bitAnd}
 use lib.ListN.{length, getD}
-use Rattle.book.specs.Format.{byte, mostStates}
+use Rattle.book.specs.Format.{byte, symbolCount, mostRules, mostStates}
 use Rattle.book.specs.Reading.{Arc}
 use Rattle.book.specs.StateSets.{member}
+use Rattle.sets.specs.declared.stepping.Swept.{Swept}
 
 -- the arc leaves a state of the set and is open to the symbol
 abbrev pub leaves : ℕ → ℕ → Arc → Bool
@@ -42,13 +43,38 @@ stepArcs p q arcs set a = stepFold (map (turned p q) arcs) set a
 abbrev pub arcBytes : ℕ → ℕ → List ℕ → ℕ → Arc
 arcBytes p q s at = record { from = byte s (at + p); low = byte s (at + 2); high = byte s (at + 3); to = byte s (at + q) }
 
--- the bytes of a record after which its rule's records go on; 0 for one that ends the rule
-abbrev pub ownSize : ℕ → ℕ
-ownSize kind = cond (eqb kind 2) 3 (cond (eqb kind 3) 5 0)
+-- every state of x is in y
+abbrev pub Within : ℕ → ℕ → Type 0
+Within x y = bitOr x y ≡ y
 
--- an arc's record is whole, and its byte q names a state that a set can hold
-abbrev pub ArcRoom : List ℕ → ℕ → ℕ → Type 0
-ArcRoom s at q = byte s at ≡ 3 → (at + 5 ≤ length s) × (byte s (at + q) < mostStates)
+-- what the records from a state's own on to the end of its rule give: nothing that the arcs do not give to the set, and all that they give
+-- to its states from that one up to and not including `next`
+pub record SweptAll (arcs : List Arc) (state set a : ℕ) (r : Swept) : Type 0 where
+  pub past : state < r .next
+  pub within : Within (r .out) (stepFold arcs set a)
+  pub each : (t : ℕ) → state ≤ t → t < r .next → member set t ≡ true → Within (stepFold arcs (2 ^ t) a) (r .out)
+
+-- an arc's record is whole, its two ends name states that a set can hold, and it is open to no symbol past the last
+pub record ArcStands (s : List ℕ) (at p q : ℕ) : Type 0 where
+  pub whole : at + 5 ≤ length s
+  pub ends : (p ≤ 4) × (q ≤ 4)
+  pub source : byte s (at + p) < mostStates
+  pub target : byte s (at + q) < mostStates
+  pub top : byte s (at + 3) < symbolCount
+
+-- a number on the symbols from low to high, and 0 on the others
+unfoldable pub between : ℕ → ℕ → ℕ → ℕ → ℕ
+between low high bit a = cond (leb low a && leb a high) bit 0
+
+-- the row with `more` added on each symbol
+pub record Added (more : ℕ → ℕ) (row row′ : List ℕ) : Type 0 where
+  pub long : length row′ ≡ symbolCount
+  pub each : (a : ℕ) → a < symbolCount → getD row′ a 0 ≡ bitOr (getD row a 0) (more a)
+
+-- the row has the step on each symbol
+pub record Stepped (step : ℕ → ℕ) (row : List ℕ) : Type 0 where
+  pub long : length row ≡ symbolCount
+  pub each : (a : ℕ) → a < symbolCount → getD row a 0 ≡ step a
 
 -- what a rule gives to a set that meets its test, and what the first n rules give
 abbrev pub joins : ℕ → ℕ → ℕ → ℕ
@@ -57,3 +83,11 @@ joins set test give = cond (eqb (bitAnd set test) 0) 0 give
 unfoldable pub gather : ℕ → ℕ → List ℕ → List ℕ → ℕ
 gather zero set tests gives = 0
 gather (suc n) set tests gives = bitOr (gather n set tests gives) (joins set (getD tests n 0) (getD gives n 0))
+
+-- the step of a set on either side, `back` for the right one: along the arcs on the left, against them on the right
+unfoldable pub sideArcs : Bool → List Arc → ℕ → ℕ → ℕ
+sideArcs back arcs set a = cond back (stepArcs 4 1 arcs set a) (stepArcs 1 4 arcs set a)
+
+-- what becomes of such a step: the left starts are added; or the right accepts, and what the rules' masks then give
+unfoldable pub closeBy : ℕ → ℕ → List ℕ → List ℕ → Bool → ℕ → ℕ
+closeBy lefts rights starts ends back x = cond back (bitOr (bitOr rights x) (gather mostRules (bitOr rights x) starts ends)) (bitOr lefts x)

@@ -1,91 +1,92 @@
-// The step of a set, read from the book's bytes: trailing zeros pick the next state, and the arcs of a state stand between its own
-// record and the end of its rule. One function serves both directions.
+// The step of a set, read from the book's bytes; no arc is copied. A walk steps a set of focus states on one symbol: trailing zeros pick the
+// next state, and the arcs of a state stand between its own record and the end of its rule. BUILD steps a set on all symbols in one reading of
+// the book, along the arcs or against them.
 ghost use mathlib.Core.Path.{_≡_};
 ghost use mathlib.Core.Bool.{true, cond};
 ghost use Prim.Native.Nat.{_+_, _<_, _≤_, _^_};
 ghost use lib.Dec.{eqb};
 ghost use lib.ListN.{length};
-ghost use Rattle.book.specs.Format.{byte, mostRules};
-ghost use Rattle.book.specs.Reading.{checkDef, bookOf};
+ghost use Rattle.book.specs.Format.{byte, symbolCount, mostRules, mostStates};
+ghost use Rattle.book.specs.Reading.{arcAt, checkDef, bookOf};
 ghost use Rattle.book.specs.Language.{stateOf};
-ghost use Rattle.book.specs.Outline.{Placed, EachMask, allMask};
-ghost use Rattle.sets.specs.Sets.{leftFirst, leftNext, rightLast, rightPrev, focusFirst, focusNext};
-ghost use Rattle.sets.specs.Stepping.{hopFold, isEnd, stepArcs, arcBytes, ownSize, ArcRoom, joins, gather};
+ghost use Rattle.book.specs.Outline.{Placed, EachMask};
+ghost use Rattle.sets.specs.Sets.{focusFirst, focusNext};
+ghost use Rattle.sets.specs.Stepping.{hopFold, stepFold, isEnd, stepArcs, arcBytes, ArcStands, SweptAll, between, Added, Stepped, joins, gather, sideArcs, closeBy};
 
 // Where an arc's record names its two states.
 const FROM: usize = 1;
 
 const TO: usize = 4;
 
-// The bytes of a state's or an arc's record; 0 for one that ends the rule.
-fn own_size(kind: u8) -> usize
-    ensures { λ r. ⌜ r ≡ ownSize kind ⌝ }
-{
-    match kind {
-        2 => 3,
-        3 => 5,
-        _ => 0,
-    }
+// What the records after a state's own give, to the end of its rule.
+pub struct Swept {
+    pub out: u64, // what they add to the step of the set
+    pub next: usize, // the number of the first state past them: the states of the rule end there
 }
 
-// What the record at `at` adds to the step of one state: nothing, unless it is an arc.
-fn hop(book: &[u8], at: usize, source: usize, target: usize, state: u8, symbol: u8) -> u64
-    requires { ⌜ at < length (now book) ⌝ }
-    requires { ⌜ (source ≤ 4) × (target ≤ 4) ⌝ }
-    requires { ⌜ ArcRoom (now book) at target ⌝ }
-    ensures { λ r. ⌜ r ≡ cond (eqb (byte (now (book .entry)) at) 3) (hopFold (arcBytes source target (now (book .entry)) at) (2 ^ state) symbol) 0 ⌝ }
+// What an arc's record adds to the step of a set. The tests only put the bit out, so that there is no branch: whether an arc is open is as
+// good as random on hostile books.
+fn hop_of(book: &[u8], at: usize, set: u64, symbol: u8) -> u64
+    requires { ⌜ at + 5 ≤ length (now book) ⌝ }
+    requires { ⌜ (byte (now book) (at + 1) < mostStates) × (byte (now book) (at + 4) < mostStates) ⌝ }
+    ensures { λ r. ⌜ r ≡ hopFold (arcAt (now (book .entry)) at) set symbol ⌝ }
 {
-    if book[at] != 3 {
-        return 0;
-    }
-    if book[at + source] != state {
-        return 0;
-    }
+    let mut bit = set >> book[at + 1] & 1;
     if symbol < book[at + 2] {
-        return 0;
+        bit = 0;
     }
     if book[at + 3] < symbol {
-        return 0;
+        bit = 0;
     }
-    1u64 << book[at + target]
+    bit << book[at + 4]
 }
 
-// The step of the set of one state, whose record stands at `place`; 0 is the place of no state.
-fn successors(book: &[u8], place: usize, source: usize, target: usize, state: u8, symbol: u8) -> u64
+// Reads the records after a state's own, which stands at `place`, to the end of their rule: once for all states of the set.
+fn sweep(book: &[u8], place: usize, state: usize, set: u64, symbol: u8) -> Swept
     requires { ⌜ checkDef (now book) .reply ≡ 0 ⌝ }
     requires { ⌜ place ≡ stateOf (bookOf (now book)) state .place ⌝ }
-    requires { ⌜ (isEnd source ≡ true) × (isEnd target ≡ true) ⌝ }
-    ensures { λ r. ⌜ r ≡ stepArcs source target (bookOf (now (book .entry)) .arcs) (2 ^ state) symbol ⌝ }
+    requires { ⌜ 0 < place ⌝ }
+    ensures { λ r. ⌜ SweptAll (bookOf (now (book .entry)) .arcs) state set symbol r ⌝ }
 {
-    if place == 0 {
-        return 0;
-    }
     let mut out: u64 = 0;
     let mut at = place + 3;
+    let mut next = state + 1;
     loop {
-        let size = own_size(book[at]);
-        if size == 0 {
-            return out;
+        let kind = book[at];
+        if kind == 3 {
+            out = out | hop_of(book, at, set, symbol);
+            at += 5;
+        } else if kind == 2 {
+            next += 1;
+            at += 3;
+        } else {
+            return Swept { out, next };
         }
-        out = out | hop(book, at, source, target, state, symbol);
-        at += size;
     }
 }
 
-// The step of a set, lowest state first.
-fn step(book: &[u8], places: &[u16; 64], source: usize, target: usize, set: u64, symbol: u8) -> u64
+// The step of a set along the arcs, lowest state first: the records of a rule are read when its first state of the set is picked, for
+// all of them. An arc is read only from a book that CHECK accepted; the places of its states are found once and lent.
+pub fn focus_step(book: &[u8], places: &[u16; 64], set: u64, symbol: u8) -> u64
     requires { ⌜ checkDef (now book) .reply ≡ 0 ⌝ }
     requires { ⌜ Placed (bookOf (now book) .states) (now places) ⌝ }
-    requires { ⌜ (isEnd source ≡ true) × (isEnd target ≡ true) ⌝ }
-    ensures { λ r. ⌜ r ≡ stepArcs source target (bookOf (now (book .entry)) .arcs) set symbol ⌝ }
+    ensures { λ r. ⌜ r ≡ stepFold (bookOf (now (book .entry)) .arcs) set symbol ⌝ }
 {
     let mut left = set;
     let mut out: u64 = 0;
+    let mut done: usize = 0; // what is left below it stands in a rule that has been read
     while left != 0 {
-        let state = u64::trailing_zeros(left);
-        let place = places[state as usize] as usize;
-        out = out | successors(book, place, source, target, state as u8, symbol);
+        let state = u64::trailing_zeros(left) as usize;
         left = left & (left - 1);
+        if done <= state {
+            let place = places[state] as usize;
+            // 0 is the place of no state
+            if place != 0 {
+                let s = sweep(book, place, state, set, symbol);
+                out = out | s.out;
+                done = s.next;
+            }
+        }
     }
     out
 }
@@ -110,47 +111,94 @@ fn gather(set: u64, tests: &[u64; 16], gives: &[u64; 16]) -> u64
     out
 }
 
-// The left set after one symbol more; `lefts` is the set of all left starts, which begin anew at each position.
-pub(crate) fn left_next(book: &[u8], places: &[u16; 64], lefts: u64, set: u64, symbol: u8) -> u64
-    requires { ⌜ checkDef (now book) .reply ≡ 0 ⌝ }
-    requires { ⌜ Placed (bookOf (now book) .states) (now places) ⌝ }
-    requires { ⌜ lefts ≡ allMask 0 1 (bookOf (now book) .states) ⌝ }
-    ensures { λ r. ⌜ r ≡ leftNext (bookOf (now (book .entry))) set symbol ⌝ }
-{
-    lefts | step(book, places, FROM, TO, set, symbol)
+// The steps of a set on all symbols.
+pub struct Row {
+    pub each: [u64; super::ROW],
 }
 
-// The right set at the tape's end; `rights` is the set of all right accepts, `starts` the right starts and `ends` the focus accepts of
-// each rule.
-pub(crate) fn right_last(book: &[u8], rights: u64, starts: &[u64; 16], ends: &[u64; 16]) -> u64
-    requires { ⌜ checkDef (now book) .reply ≡ 0 ⌝ }
-    requires { ⌜ rights ≡ allMask 2 2 (bookOf (now book) .states) ⌝ }
-    requires { ⌜ EachMask 2 1 (bookOf (now book) .states) (now starts) ⌝ }
-    requires { ⌜ EachMask 1 2 (bookOf (now book) .states) (now ends) ⌝ }
-    ensures { λ r. ⌜ r ≡ rightLast (bookOf (now (book .entry))) ⌝ }
+// One bit more on each symbol from `low` to `high`.
+fn spread(row: &mut [u64; super::ROW], low: u8, high: u8, bit: u64)
+    requires { ⌜ length (now row) ≡ symbolCount ⌝ }
+    requires { ⌜ high < symbolCount ⌝ }
+    ensures { λ _. ⌜ Added (between low high bit) (now (row .entry)) (now (row .exit)) ⌝ }
 {
-    rights | gather(rights, starts, ends)
+    let mut symbol = low as usize;
+    while symbol <= high as usize {
+        row[symbol] = row[symbol] | bit;
+        symbol += 1;
+    }
 }
 
-// The right set with one symbol put in front: a focus is closed where the right context of its own rule holds.
-pub(crate) fn right_prev(
+// What the arc at `at` adds to the row of a set: nothing, unless the set holds the state that it leaves.
+fn add_arc(
     book: &[u8],
-    places: &[u16; 64],
+    at: usize,
+    source: usize,
+    target: usize,
+    set: u64,
+    row: &mut [u64; super::ROW],
+)
+    requires { ⌜ ArcStands (now book) at source target ⌝ }
+    requires { ⌜ length (now row) ≡ symbolCount ⌝ }
+    ensures { λ _. ⌜ Added (hopFold (arcBytes source target (now (book .entry)) at) set) (now (row .entry)) (now (row .exit)) ⌝ }
+{
+    if set >> book[at + source] & 1 != 0 {
+        spread(row, book[at + 2], book[at + 3], 1u64 << book[at + target]);
+    }
+}
+
+// One reading of the book gives the steps of a set on all symbols.
+fn step_row(book: &[u8], source: usize, target: usize, set: u64) -> Row
+    requires { ⌜ checkDef (now book) .reply ≡ 0 ⌝ }
+    requires { ⌜ (isEnd source ≡ true) × (isEnd target ≡ true) ⌝ }
+    ensures { λ r. ⌜ Stepped (stepArcs source target (bookOf (now (book .entry)) .arcs) set) (r .each) ⌝ }
+{
+    let mut row = [0u64; super::ROW];
+    let mut at: usize = 0;
+    loop {
+        let kind = book[at];
+        if kind == 3 {
+            add_arc(book, at, source, target, set, &mut row);
+            at += 5;
+        } else if kind == 2 {
+            at += 3;
+        } else if kind == 1 {
+            at += 10;
+        } else {
+            return Row { each: row };
+        }
+    }
+}
+
+// The row of a set on either side, `back` for the right one: along the arcs on the left, against them on the right.
+pub(crate) fn side_row(book: &[u8], back: bool, set: u64) -> Row
+    requires { ⌜ checkDef (now book) .reply ≡ 0 ⌝ }
+    ensures { λ r. ⌜ Stepped (sideArcs back (bookOf (now (book .entry)) .arcs) set) (r .each) ⌝ }
+{
+    if back {
+        return step_row(book, TO, FROM, set);
+    }
+    step_row(book, FROM, TO, set)
+}
+
+// What becomes of such a step. On the left the left starts (`lefts`) are added, which begin anew at each position; on the right the right
+// accepts (`rights`) are added, and a focus is closed where the right context of its own rule holds: `starts` has the right starts and
+// `ends` the focus accepts of each rule.
+pub(crate) fn close(
+    lefts: u64,
     rights: u64,
     starts: &[u64; 16],
     ends: &[u64; 16],
-    set: u64,
-    symbol: u8,
+    back: bool,
+    step: u64,
 ) -> u64
-    requires { ⌜ checkDef (now book) .reply ≡ 0 ⌝ }
-    requires { ⌜ Placed (bookOf (now book) .states) (now places) ⌝ }
-    requires { ⌜ rights ≡ allMask 2 2 (bookOf (now book) .states) ⌝ }
-    requires { ⌜ EachMask 2 1 (bookOf (now book) .states) (now starts) ⌝ }
-    requires { ⌜ EachMask 1 2 (bookOf (now book) .states) (now ends) ⌝ }
-    ensures { λ r. ⌜ r ≡ rightPrev (bookOf (now (book .entry))) set symbol ⌝ }
+    ensures { λ r. ⌜ r ≡ closeBy lefts rights (now (starts .entry)) (now (ends .entry)) back step ⌝ }
 {
-    let near = rights | step(book, places, TO, FROM, set, symbol);
-    near | gather(near, starts, ends)
+    if back {
+        let near = rights | step;
+        return near | gather(near, starts, ends);
+    }
+    lefts | step
 }
 
 // The focus states that may start where the left set and the right set meet: of each rule whose left accepts the left set meets, the
@@ -178,5 +226,5 @@ pub fn focus_next(book: &[u8], places: &[u16; 64], set: u64, symbol: u8, right: 
     requires { ⌜ Placed (bookOf (now book) .states) (now places) ⌝ }
     ensures { λ r. ⌜ r ≡ focusNext (bookOf (now (book .entry))) set symbol right ⌝ }
 {
-    step(book, places, FROM, TO, set, symbol) & right
+    focus_step(book, places, set, symbol) & right
 }

@@ -1,11 +1,13 @@
 -- Four ways out: CHECK's refusal, either piece too short, and both sides numbered.
 use Rattle.sets.proofs.WaysOut.{way-refused, way-rows, way-sets}
-use Rattle.sets.specs.Workspace.{refusal}
+use Rattle.sets.specs.Workspace.{setWords, refusal}
 use Rattle.book.specs.declared.Checked.{Checked}
 use Rattle.book.specs.Reading.{checkDef}
 use mathlib.Core.List.{List}
 use mathlib.Core.Path.{_≡_, sym, ap, _∙_}
-use Prim.Native.Nat.{ℕ}
+use Prim.Native.Nat.{ℕ, _<_}
+use native.Mathlib.Omega.{arith}
+use lib.ListN.{length}
 use borrow.Author.Needs.{needs}
 use Rattle.sets.proofs.build.Statement.{statement}
 use Rattle.sets.proofs.build.Tie as tie
@@ -36,7 +38,9 @@ refused-requires-3 c κs = search needs
 
 returns-3 : tie.Need-returns-3
 returns-3 c =
-    way-sets _ _ _ (sym (reply-same _ _ (c .before .before .before .before .before .check .ensures)) ∙ c .before .before .before .if1 .left) _ (c .before .if3 .taken) (c .refused3 .ensures)
+    let S = c .before .before .before .before .before .before .before .before .before .args .sets .now in
+    let short : length S < setWords = omega arith in
+    way-sets _ _ S (sym (reply-same _ _ (c .before .before .before .before .before .check .ensures)) ∙ c .before .before .before .if1 .left) _ short (c .refused3 .ensures)
 
 number-book-requires : tie.Need-number-book-requires
 number-book-requires c κs =

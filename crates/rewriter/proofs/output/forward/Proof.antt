@@ -1,44 +1,48 @@
--- `output::forward` meets its contract: what is written so far, followed by what is still to come, is the whole. Assumes nothing.
+-- `output::forward` meets its contract: what is written and counted so far, followed by what is still to come, is the whole. Assumes nothing.
 use Prim.Native.Nat.{_-_, _≤_, _<_}
 use native.Mathlib.Omega.{arith}
 use borrow.Author.Needs.{needs}
 use lib.ListN.{length}
-use Rattle.rewriter.proofs.Forth.{Forth, forth-start, forth-room, forth-turn, forth-outs, forth-orgs}
+use Rattle.book.specs.Reading.{bookOf}
+use Rattle.rewriter.specs.Ready.{Remembers}
 use Rattle.rewriter.proofs.Scans.{rights-of}
+use Rattle.rewriter.proofs.Forth.{Forth, forth-start, forth-room, forth-turn, forth-outs, forth-orgs}
+use Rattle.rewriter.proofs.Measured.{counted-taken, counted-end}
+use Rattle.rewriter.proofs.Remembering.{remembers-start}
 use Rattle.rewriter.proofs.output.forward.Statement.{statement}
 use Rattle.rewriter.proofs.output.forward.Tie as tie
 
 abbrev Inv-loop : tie.InvT-loop
-Inv-loop book places masks words rules tape rows sets scratch out₀ origins₀ at₀ end₀ k₀ i₀ out origins at end k i =
-    Forth book tape sets out₀ origins₀ out origins at end k i
+Inv-loop book places masks words rules tape rows sets scratch out₀ origins₀ steps₀ symbols₀ at₀ end₀ taken₀ k₀ i₀ out origins steps symbols at end taken k i =
+    Forth book tape sets out₀ origins₀ out origins at taken end k i × Remembers (bookOf book) steps symbols
 
 abbrev μ-loop : tie.MeasureT-loop
-μ-loop book places masks words rules tape rows sets scratch out₀ origins₀ at₀ end₀ k₀ i₀ out origins at end k i =
+μ-loop book places masks words rules tape rows sets scratch out₀ origins₀ steps₀ symbols₀ at₀ end₀ taken₀ k₀ i₀ out origins steps symbols at end taken k i =
     length tape - i
 
 loop-holds : tie.Need-loop-holds Inv-loop μ-loop
 loop-holds c =
     let a = c .before .before .before .before .before .before .before .args in
-    forth-start (a .book .now) (a .tape .now) (a .rows .now) (a .sets .now) (a .scratch .now) (a .out .now) (a .origins .now) (c .before .before .before .before .before .before .before .pre .1 .0)
+    (forth-start (a .book .now) (a .tape .now) (a .rows .now) (a .sets .now) (a .scratch .now) (a .out .now) (a .origins .now) (c .before .before .before .before .before .before .before .pre .1 .0), remembers-start (bookOf (a .book .now)))
 
 mul-place : tie.Need-mul-place Inv-loop μ-loop
 mul-place c = search needs
 
 shared-slice-read-place : tie.Need-shared-slice-read-place Inv-loop μ-loop
 shared-slice-read-place c =
-    omega (arith, c .before .before .loop .inv .left .below, c .before .before .before .before .before .before .before .before .before .before .pre .1 .0 .few, c .before .before .before .before .before .before .before .before .before .before .pre .1 .0 .sets-room)
+    omega (arith, c .before .before .loop .inv .0 .counted .left .below, c .before .before .before .before .before .before .before .before .before .before .pre .1 .0 .few, c .before .before .before .before .before .before .before .before .before .before .pre .1 .0 .sets-room)
 
 place-requires : tie.Need-place-requires Inv-loop μ-loop
 place-requires c κs =
-    let a = c .before .before .before .before .before .before .before .before .before .before .before .before .args in
-    let l = c .before .before .before .before .loop in
-    let h : l .i < length (a .tape .now) = c .before .before .before .loop-test .taken in (
-      c .before .before .before .before .before .before .before .before .before .before .before .before .pre .0,
+    let a = c .before .before .before .before .before .before .before .before .before .before .before .before .before .before .args in
+    let l = c .before .before .before .before .before .before .loop in
+    let h : l .i < length (a .tape .now) = c .before .before .before .before .before .loop-test .taken in (
+      c .before .before .before .before .before .before .before .before .before .before .before .before .before .before .pre .0,
       (
-        rights-of (a .book .now) (a .tape .now) (a .rows .now) (a .sets .now) (a .scratch .now) (c .before .before .before .before .before .before .before .before .before .before .before .before .pre .1 .0),
+        rights-of (a .book .now) (a .tape .now) (a .rows .now) (a .sets .now) (a .scratch .now) (c .before .before .before .before .before .before .before .before .before .before .before .before .before .before .pre .1 .0),
         (
-          (h, omega (arith, c .before .before .before .before .before .before .before .before .before .before .before .before .pre .1 .0 .tape-fits), l .inv .left .is),
-          forth-room (a .book .now) (a .tape .now) (a .rows .now) (a .sets .now) (a .scratch .now) (a .out .now) (a .origins .now) (c .before .before .before .before .before .before .before .before .before .before .before .before .pre .1 .0) (l .out) (l .origins) (l .at) (l .end) (l .k) (l .i) (l .inv) h (c .before .before .before .before .before .before .before .before .before .before .before .before .pre .1 .1 .0) (c .before .before .before .before .before .before .before .before .before .before .before .before .pre .1 .1 .1),
+          (h, omega (arith, c .before .before .before .before .before .before .before .before .before .before .before .before .before .before .pre .1 .0 .tape-fits), l .inv .0 .counted .left .is, counted-taken (a .book .now) (a .tape .now) (a .rows .now) (a .sets .now) (a .scratch .now) (c .before .before .before .before .before .before .before .before .before .before .before .before .before .before .pre .1 .0) (l .at) (l .taken) (l .end) (l .k) (l .i) (l .inv .0 .counted)),
+          (forth-room (a .book .now) (a .tape .now) (a .rows .now) (a .sets .now) (a .scratch .now) (a .out .now) (a .origins .now) (c .before .before .before .before .before .before .before .before .before .before .before .before .before .before .pre .1 .0) (l .out) (l .origins) (l .at) (l .taken) (l .end) (l .k) (l .i) (l .inv .0) h (c .before .before .before .before .before .before .before .before .before .before .before .before .before .before .pre .1 .1 .0) (c .before .before .before .before .before .before .before .before .before .before .before .before .before .before .pre .1 .1 .1), l .inv .1),
         ),
       ),
     )
@@ -48,26 +52,26 @@ shared-slice-read-left-step c = search needs
 
 left-step-requires : tie.Need-left-step-requires Inv-loop μ-loop
 left-step-requires c κs =
-    let l = c .before .before .before .before .before .before .before .before .before .before .loop in
-    let h : l .i < length (c .before .before .before .before .before .before .before .before .before .before .before .before .before .before .before .before .before .before .args .tape .now) = c .before .before .before .before .before .before .before .before .before .loop-test .taken in
-    (omega (arith, l .inv .left .below, c .before .before .before .before .before .before .before .before .before .before .before .before .before .before .before .before .before .before .pre .1 .0 .few), c .before .before .before .before .before .before .before .before .before .before .before .before .before .before .before .before .before .before .pre .1 .0 .symbols (l .i) h, c .before .before .before .before .before .before .before .before .before .before .before .before .before .before .before .before .before .before .pre .1 .0 .rows-room)
+    let l = c .before .before .before .before .before .before .before .before .before .before .before .before .loop in
+    let h : l .i < length (c .before .before .before .before .before .before .before .before .before .before .before .before .before .before .before .before .before .before .before .before .args .tape .now) = c .before .before .before .before .before .before .before .before .before .before .before .loop-test .taken in
+    (omega (arith, l .inv .0 .counted .left .below, c .before .before .before .before .before .before .before .before .before .before .before .before .before .before .before .before .before .before .before .before .pre .1 .0 .few), c .before .before .before .before .before .before .before .before .before .before .before .before .before .before .before .before .before .before .before .before .pre .1 .0 .symbols (l .i) h, c .before .before .before .before .before .before .before .before .before .before .before .before .before .before .before .before .before .before .before .before .pre .1 .0 .rows-room)
 
 add-i : tie.Need-add-i Inv-loop μ-loop
 add-i c =
-    omega (arith, c .before .before .before .before .before .before .before .before .before .before .loop-test .taken, c .before .before .before .before .before .before .before .before .before .before .before .before .before .before .before .before .before .before .before .pre .1 .0 .tape-fits)
+    omega (arith, c .before .before .before .before .before .before .before .before .before .before .before .before .loop-test .taken, c .before .before .before .before .before .before .before .before .before .before .before .before .before .before .before .before .before .before .before .before .before .pre .1 .0 .tape-fits)
 
 loop-less : tie.Need-loop-less Inv-loop μ-loop
 loop-less c = search needs
 
 loop-again : tie.Need-loop-again Inv-loop μ-loop
 loop-again c =
-    let a = c .before .before .before .before .before .before .before .before .before .before .before .before .before .before .before .before .before .before .before .args in
-    let l = c .before .before .before .before .before .before .before .before .before .before .before .loop in
+    let a = c .before .before .before .before .before .before .before .before .before .before .before .before .before .before .before .before .before .before .before .before .before .args in
+    let l = c .before .before .before .before .before .before .before .before .before .before .before .before .before .loop in
     let p = c .before .before .before .before .before .before .place in
-    let h : l .i < length (a .tape .now) = c .before .before .before .before .before .before .before .before .before .before .loop-test .taken in
-    forth-turn (a .book .now) (a .tape .now) (a .rows .now) (a .sets .now) (a .scratch .now) (a .out .now) (a .origins .now) (c .before .before .before .before .before .before .before .before .before .before .before .before .before .before .before .before .before .before .before .pre .1 .0) (l .out) (l .origins) (l .at) (l .end) (l .k) (l .i) (l .inv) h (p .result .at) (p .result .end) (c .left-step .result) _ _
-    (forth-room (a .book .now) (a .tape .now) (a .rows .now) (a .sets .now) (a .scratch .now) (a .out .now) (a .origins .now) (c .before .before .before .before .before .before .before .before .before .before .before .before .before .before .before .before .before .before .before .pre .1 .0) (l .out) (l .origins) (l .at) (l .end) (l .k) (l .i) (l .inv) h (c .before .before .before .before .before .before .before .before .before .before .before .before .before .before .before .before .before .before .before .pre .1 .1 .0) (c .before .before .before .before .before .before .before .before .before .before .before .before .before .before .before .before .before .before .before .pre .1 .1 .1))
-    (p .ensures) (c .left-step .ensures)
+    let h : l .i < length (a .tape .now) = c .before .before .before .before .before .before .before .before .before .before .before .before .loop-test .taken in
+    (forth-turn (a .book .now) (a .tape .now) (a .rows .now) (a .sets .now) (a .scratch .now) (a .out .now) (a .origins .now) (c .before .before .before .before .before .before .before .before .before .before .before .before .before .before .before .before .before .before .before .before .before .pre .1 .0) (l .out) (l .origins) (l .at) (l .taken) (l .end) (l .k) (l .i) (l .inv .0) h (p .result .at) (p .result .end) (p .result .taken) (c .left-step .result) _ _
+    (forth-room (a .book .now) (a .tape .now) (a .rows .now) (a .sets .now) (a .scratch .now) (a .out .now) (a .origins .now) (c .before .before .before .before .before .before .before .before .before .before .before .before .before .before .before .before .before .before .before .before .before .pre .1 .0) (l .out) (l .origins) (l .at) (l .taken) (l .end) (l .k) (l .i) (l .inv .0) h (c .before .before .before .before .before .before .before .before .before .before .before .before .before .before .before .before .before .before .before .before .before .pre .1 .1 .0) (c .before .before .before .before .before .before .before .before .before .before .before .before .before .before .before .before .before .before .before .before .before .pre .1 .1 .1))
+    (p .ensures .0) (c .left-step .ensures), p .ensures .1)
 
 same-length : tie.Need-same-length Inv-loop μ-loop
 same-length c = search needs
@@ -80,8 +84,11 @@ returns c =
     let a = c .before .before .before .before .before .before .before .before .before .args in
     let l = c .before .loop in
     let z : length (a .tape .now) ≤ l .i = omega arith in (
-      forth-outs (a .book .now) (a .tape .now) (a .rows .now) (a .sets .now) (a .scratch .now) (a .out .now) (a .origins .now) (c .before .before .before .before .before .before .before .before .before .pre .1 .0) (l .out) (l .origins) (l .at) (l .end) (l .k) (l .i) (l .inv) z,
-      forth-orgs (a .book .now) (a .tape .now) (a .rows .now) (a .sets .now) (a .scratch .now) (a .out .now) (a .origins .now) (c .before .before .before .before .before .before .before .before .before .pre .1 .0) (l .out) (l .origins) (l .at) (l .end) (l .k) (l .i) (l .inv) z,
+      counted-end (a .book .now) (a .tape .now) (a .rows .now) (a .sets .now) (a .scratch .now) (c .before .before .before .before .before .before .before .before .before .pre .1 .0) (l .at) (l .taken) (l .end) (l .k) (l .i) (l .inv .0 .counted) z,
+      (
+        forth-outs (a .book .now) (a .tape .now) (a .rows .now) (a .sets .now) (a .scratch .now) (a .out .now) (a .origins .now) (c .before .before .before .before .before .before .before .before .before .pre .1 .0) (l .out) (l .origins) (l .at) (l .taken) (l .end) (l .k) (l .i) (l .inv .0) z,
+        forth-orgs (a .book .now) (a .tape .now) (a .rows .now) (a .sets .now) (a .scratch .now) (a .out .now) (a .origins .now) (c .before .before .before .before .before .before .before .before .before .pre .1 .0) (l .out) (l .origins) (l .at) (l .taken) (l .end) (l .k) (l .i) (l .inv .0) z,
+      ),
     )
 
 pub forward-spec : {M : Type 1} → statement M

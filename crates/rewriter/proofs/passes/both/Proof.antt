@@ -1,36 +1,33 @@
--- `passes::both` meets its contract: refused where a buffer is too short for the measured length, else written. Assumes nothing.
-use mathlib.Core.Logic.{inl, inr}
+-- `passes::both` meets its contract: refused where symbols are needed past the room of the shorter buffer, else written. Assumes nothing.
+use mathlib.Core.Path.{ap, _∙_}
 use native.Mathlib.Omega.{arith}
 use borrow.Author.Needs.{needs}
 use Rattle.book.specs.Language.{rulesIn}
-use Rattle.rewriter.proofs.Outcomes.{tape-done, tape-no-room}
+use Rattle.rewriter.specs.Passes.{neededPast}
+use Rattle.rewriter.proofs.Outcomes.{needed-fits, tape-done, tape-no-room}
 use Rattle.rewriter.proofs.passes.both.Statement.{statement}
 use Rattle.rewriter.proofs.passes.both.Tie as tie
 
-measure-requires : tie.Need-measure-requires
-measure-requires c κs = search needs
+room-of-requires : tie.Need-room-of-requires
+room-of-requires c κs = search needs
+
+needed-requires : tie.Need-needed-requires
+needed-requires c κs = search needs
 
 no-room-requires : tie.Need-no-room-requires
 no-room-requires c κs = search needs
 
 returns : tie.Need-returns
 returns c =
-    let a = c .before .before .before .before .before .before .before .before .before .before .args in
-    let m = c .before .before .measure in
-    tape-no-room (rulesIn (a .book .now)) (a .tape .now) (a .out .now) (a .origins .now) (m .result .length) (m .result .taken) (c .no-room .result) (m .ensures) (inl (c .before .if1 .taken)) (c .no-room .ensures)
-
-no-room-requires-2 : tie.Need-no-room-requires-2
-no-room-requires-2 c κs = search needs
-
-returns-2 : tie.Need-returns-2
-returns-2 c =
     let a = c .before .before .before .before .before .before .before .before .before .before .before .args in
-    let m = c .before .before .before .measure in
-    tape-no-room (rulesIn (a .book .now)) (a .tape .now) (a .out .now) (a .origins .now) (m .result .length) (m .result .taken) (c .no-room2 .result) (m .ensures) (inr (c .before .if2 .taken)) (c .no-room2 .ensures)
+    let e = c .before .before .needed .ensures ∙ ap (neededPast (rulesIn (a .book .now)) (a .tape .now)) (c .before .before .before .room-of .ensures) in
+    tape-no-room (rulesIn (a .book .now)) (a .tape .now) (a .out .now) (a .origins .now) (c .before .before .needed .result) (c .no-room .result) e (c .before .if1 .taken) (c .no-room .ensures)
 
 forward-requires : tie.Need-forward-requires
 forward-requires c κs =
-    (c .before .before .before .before .before .before .before .before .before .before .before .before .pre .0, (c .before .before .before .before .before .before .before .before .before .before .before .before .pre .1, (omega (arith, c .before .before .before .before .measure .ensures .lens, c .before .before .before .if1 .left), omega (arith, c .before .before .before .before .measure .ensures .lens, c .before .before .if2 .left))))
+    let a = c .before .before .before .before .before .before .before .before .before .before .before .before .args in
+    let h = needed-fits (rulesIn (a .book .now)) (a .tape .now) (c .before .before .before .before .room-of .result) (c .before .before .before .needed .result) (c .before .before .before .needed .ensures) (c .before .before .if1 .left) in
+    (c .before .before .before .before .before .before .before .before .before .before .before .before .pre .0, (c .before .before .before .before .before .before .before .before .before .before .before .before .pre .1, (omega (arith, h, c .before .before .before .before .room-of .ensures), omega (arith, h, c .before .before .before .before .room-of .ensures))))
 
 same-length : tie.Need-same-length
 same-length c = search needs
@@ -38,23 +35,22 @@ same-length c = search needs
 same-length-2 : tie.Need-same-length-2
 same-length-2 c = search needs
 
-returns-3 : tie.Need-returns-3
-returns-3 c =
+returns-2 : tie.Need-returns-2
+returns-2 c =
     let a = c .before .before .before .before .before .before .before .before .before .before .before .before .before .before .before .before .before .args in
-    let m = c .before .before .before .before .before .before .before .before .before .measure in
     let f = c .before .before .before .before .forward in
-    tape-done (rulesIn (a .book .now)) (a .tape .now) (a .out .now) (a .origins .now) (m .result .length) (m .result .taken) _ _ (m .ensures) (omega (arith, c .before .before .before .before .before .before .before .before .if1 .left)) (omega (arith, c .before .before .before .before .before .before .before .if2 .left)) (f .ensures .0) (f .ensures .1)
+    let h = needed-fits (rulesIn (a .book .now)) (a .tape .now) (c .before .before .before .before .before .before .before .before .before .room-of .result) (c .before .before .before .before .before .before .before .before .needed .result) (c .before .before .before .before .before .before .before .before .needed .ensures) (c .before .before .before .before .before .before .before .if1 .left) in
+    tape-done (rulesIn (a .book .now)) (a .tape .now) (a .out .now) (a .origins .now) (f .result .length) (f .result .taken) _ _ (f .ensures .0) (omega (arith, h, c .before .before .before .before .before .before .before .before .before .room-of .ensures, f .ensures .0 .lens)) (omega (arith, h, c .before .before .before .before .before .before .before .before .before .room-of .ensures, f .ensures .0 .lens)) (f .ensures .1 .0) (f .ensures .1 .1)
 
 pub both-spec : {M : Type 1} → statement M
 both-spec =
     tie.close
     (tie.spec
-    measure-requires
+    room-of-requires
+    needed-requires
     no-room-requires
     returns
-    no-room-requires-2
-    returns-2
     forward-requires
     same-length
     same-length-2
-    returns-3)
+    returns-2)

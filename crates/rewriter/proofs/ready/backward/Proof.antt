@@ -5,8 +5,8 @@ use borrow.Author.Needs.{needs}
 use Rattle.rewriter.proofs.Backwards.{Filled, filled-start, filled-turn, filled-end}
 use lib.ListN.{length, length-set, getD, set}
 use native.Mathlib.Omega.{arith}
-use mathlib.Core.Path.{refl}
-use Prim.Native.Nat.{_+_, _-_, _*_}
+use mathlib.Core.Path.{_≡_, ap}
+use Prim.Native.Nat.{ℕ, _+_, _-_, _*_}
 use Rattle.rewriter.proofs.ready.backward.Statement.{statement}
 use Rattle.rewriter.proofs.ready.backward.Tie as tie
 
@@ -27,6 +27,17 @@ loop-holds c =
 sub-i : tie.Need-sub-i Inv-loop μ-loop
 sub-i c = search needs
 
+shared-slice-read-column : tie.Need-shared-slice-read-column Inv-loop μ-loop
+shared-slice-read-column c = search needs
+
+cast-column : tie.Need-cast-column Inv-loop μ-loop
+cast-column c =
+    omega (arith, c .shared-slice-known .given (c .before .before .loop .i - 1))
+
+add-column : tie.Need-add-column Inv-loop μ-loop
+add-column c =
+    omega (arith, c .shared-slice-known .given (c .before .before .loop .i - 1))
+
 cast-number : tie.Need-cast-number Inv-loop μ-loop
 cast-number c = search needs
 
@@ -34,21 +45,11 @@ mul-number : tie.Need-mul-number Inv-loop μ-loop
 mul-number c = search needs
 
 add-number : tie.Need-add-number Inv-loop μ-loop
-add-number c = search needs
+add-number c =
+    omega (arith, c .shared-slice-known .given (c .before .before .loop .i - 1))
 
 shared-slice-read-number : tie.Need-shared-slice-read-number Inv-loop μ-loop
-shared-slice-read-number c = search needs
-
-cast-number-2 : tie.Need-cast-number-2 Inv-loop μ-loop
-cast-number-2 c =
-    omega (arith, c .shared-slice-known .given (c .before .before .loop .i - 1))
-
-add-number-2 : tie.Need-add-number-2 Inv-loop μ-loop
-add-number-2 c =
-    omega (arith, c .shared-slice-known .given (c .before .before .loop .i - 1))
-
-shared-slice-read-number-2 : tie.Need-shared-slice-read-number-2 Inv-loop μ-loop
-shared-slice-read-number-2 c =
+shared-slice-read-number c =
     let l = c .before .before .before .loop in
     omega (arith, c .before .before .before .before .pre .1 .1 (l .i - 1) (omega arith))
 
@@ -64,7 +65,9 @@ loop-again : tie.Need-loop-again Inv-loop μ-loop
 loop-again c =
     let a = c .before .before .before .before .args in
     let l = c .before .before .before .loop in
-    filled-turn (a .rows .now) (a .tape .now) (set (a .scratch .now) (length (a .tape .now)) 0) (l .scratch) (l .i) (l .i - 1) (l .number) _ (omega arith) (omega arith) (simp length-set (omega arith)) refl (omega (arith, c .shared-slice-known2 .given (pairs + l .number * symbolCount + getD (a .tape .now) (l .i - 1) 0))) (l .inv)
+    let x : ℕ = getD (a .tape .now) (l .i - 1) 0 in
+    let e : pairs + x + l .number * symbolCount ≡ pairs + l .number * symbolCount + x = omega arith in
+    filled-turn (a .rows .now) (a .tape .now) (set (a .scratch .now) (length (a .tape .now)) 0) (l .scratch) (l .i) (l .i - 1) (l .number) _ (omega arith) (omega arith) (simp length-set (omega arith)) (ap (λ (n : ℕ). getD (a .rows .now) n 0) e) (omega (arith, c .shared-slice-known2 .given (pairs + x + l .number * symbolCount))) (l .inv)
 
 same-length : tie.Need-same-length Inv-loop μ-loop
 same-length c =
@@ -85,13 +88,13 @@ backward-spec =
     slice-write-scratch
     loop-holds
     sub-i
+    shared-slice-read-column
+    cast-column
+    add-column
     cast-number
     mul-number
     add-number
     shared-slice-read-number
-    cast-number-2
-    add-number-2
-    shared-slice-read-number-2
     slice-write-scratch-2
     loop-less
     loop-again

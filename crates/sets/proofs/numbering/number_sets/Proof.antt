@@ -1,53 +1,81 @@
--- The outer loop stands before row k and the inner one before symbol a of it: rows and sets hold the table after that many pairs. A number
--- that is written is below the most, by the two ways to come to it.
-use Prim.Native.Nat.{_≤_, _<_, _-_, _*_}
+-- The outer loop stands before row k and the inner one before symbol a of it: rows and sets hold the table after that many pairs, and the
+-- number of the last step's set is at hand. A number that is written is below the most, by the two ways to come to it.
+use Prim.Native.Nat.{_<_, _-_}
+use mathlib.Core.Path.{_∙_}
 use mathlib.Core.Logic.{⊎-elim}
 use native.Mathlib.Omega.{arith}
 use Rattle.book.specs.Format.{symbolCount}
 use Rattle.book.specs.Reading.{bookOf}
+use Rattle.book.proofs.Accepted.{is-accepted}
+use Rattle.book.proofs.Sound.{accepted-sound}
+use Rattle.sets.specs.Stepping.{closeBy}
 use Rattle.sets.specs.Numbering.{mostSets}
-use Rattle.sets.specs.Sides.{stepOf}
-use Rattle.sets.proofs.At.{At, In, clear-rows, clear-sets, started, whole, too-many, in-first, in-last, in-new, in-old, in-full, new-small, old-small}
+use Rattle.sets.specs.Sides.{firstOf, stepOf, tableOf}
+use Rattle.sets.proofs.Rows.{close-first, close-row}
+use Rattle.sets.proofs.At.{Before, In, clear-rows, clear-sets, before-first, whole, too-many, in-first, in-last, in-new, in-old, in-full, new-small, old-small}
+use borrow.Author.Needs.{needs}
 use Rattle.sets.proofs.numbering.number_sets.Statement.{statement}
 use Rattle.sets.proofs.numbering.number_sets.Tie as tie
 
 abbrev Inv-loop : tie.InvT-loop
-Inv-loop book places lefts rights starts ends back first rows₀ sets₀ count₀ k set symbol₀ rows sets count symbol =
-    In (stepOf (bookOf book) back) first k symbol set rows sets count
+Inv-loop book lefts rights starts ends back rows₀ sets₀ count₀ k last₀ number₀ row symbol₀ rows sets count last number symbol =
+    In (stepOf (bookOf book) back) (closeBy lefts rights starts ends back) (firstOf (bookOf book) back) k symbol (row .each) rows sets count last number
 
 abbrev μ-loop : tie.MeasureT-loop
-μ-loop book places lefts rights starts ends back first rows₀ sets₀ count₀ k set symbol₀ rows sets count symbol = symbolCount - symbol
+μ-loop book lefts rights starts ends back rows₀ sets₀ count₀ k last₀ number₀ row symbol₀ rows sets count last number symbol =
+    symbolCount - symbol
 
 abbrev Inv-all : tie.InvT-all
-Inv-all book places lefts rights starts ends back first rows₀ sets₀ count₀ k₀ rows sets count k =
-    At (stepOf (bookOf book) back) first (symbolCount * k) rows sets count × (k ≤ count)
+Inv-all book lefts rights starts ends back rows₀ sets₀ count₀ k₀ last₀ number₀ rows sets count k last number =
+    Before (stepOf (bookOf book) back) (closeBy lefts rights starts ends back) (firstOf (bookOf book) back) k rows sets count last number
 
 abbrev μ-all : tie.MeasureT-all
-μ-all book places lefts rights starts ends back first rows₀ sets₀ count₀ k₀ rows sets count k = mostSets - k
+μ-all book lefts rights starts ends back rows₀ sets₀ count₀ k₀ last₀ number₀ rows sets count k last number =
+    mostSets - k
+
+close-requires : tie.Need-close-requires Inv-loop μ-loop Inv-all μ-all
+close-requires c κs = search needs
 
 slice-write-sets : tie.Need-slice-write-sets Inv-loop μ-loop Inv-all μ-all
-slice-write-sets c = omega (arith, clear-sets _ _ (c .before .before .before .pre .1 .1))
+slice-write-sets c = omega (arith, clear-sets _ _ (c .before .before .before .before .pre .1 .1))
 
 all-holds : tie.Need-all-holds Inv-loop μ-loop Inv-all μ-all
-all-holds c = (started _ _ _ _ (c .before .before .before .pre .1 .1), omega arith)
+all-holds c =
+    let p = c .before .before .before .before .pre in
+    let x = c .close in
+    before-first _ _ _ _ _ _ (p .1 .1) (x .ensures) (x .ensures ∙ close-first _ (accepted-sound _ _ (is-accepted _ (p .0))) _ _ _ _ (p .1 .0) _)
 
-mul-set : tie.Need-mul-set Inv-loop μ-loop Inv-all μ-all
-mul-set c = omega arith
+mul-side-row : tie.Need-mul-side-row Inv-loop μ-loop Inv-all μ-all
+mul-side-row c = omega arith
 
-slice-read-set : tie.Need-slice-read-set Inv-loop μ-loop Inv-all μ-all
-slice-read-set c = omega arith
+slice-read-side-row : tie.Need-slice-read-side-row Inv-loop μ-loop Inv-all μ-all
+slice-read-side-row c = omega arith
+
+side-row-requires : tie.Need-side-row-requires Inv-loop μ-loop Inv-all μ-all
+side-row-requires c κs = c .before .before .before .before .before .before .before .pre .0
 
 loop-holds : tie.Need-loop-holds Inv-loop μ-loop Inv-all μ-all
-loop-holds c = in-first _ _ _ _ _ _ (c .before .before .all .inv .0) (omega arith)
+loop-holds c =
+    let p = c .before .before .before .before .before .before .before .before .pre in
+    in-first _ _ _ _ _ _ _ _ _ _ (c .before .before .before .all .inv) (c .before .before .if1 .left) (close-row _ (accepted-sound _ _ (is-accepted _ (p .0))) _ _ _ _ (p .1 .0) _ _ _ (c .side-row .ensures))
 
-next-set-requires : tie.Need-next-set-requires Inv-loop μ-loop Inv-all μ-all
-next-set-requires c κs = let a = c .before .before .before .before .before .before .before .before in (a .pre .0, a .pre .1 .0)
+cast-step : tie.Need-cast-step Inv-loop μ-loop Inv-all μ-all
+cast-step c = omega arith
 
-find-requires : tie.Need-find-requires Inv-loop μ-loop Inv-all μ-all
-find-requires c κs = omega arith
+mul-step : tie.Need-mul-step Inv-loop μ-loop Inv-all μ-all
+mul-step c = omega arith
+
+element-copy-out-step : tie.Need-element-copy-out-step Inv-loop μ-loop Inv-all μ-all
+element-copy-out-step c = omega arith
+
+number-of-requires : tie.Need-number-of-requires Inv-loop μ-loop Inv-all μ-all
+number-of-requires c κs = (omega arith, c .before .before .before .loop .inv .known)
 
 add-result : tie.Need-add-result Inv-loop μ-loop Inv-all μ-all
 add-result c = omega arith
+
+close-requires-2 : tie.Need-close-requires-2 Inv-loop μ-loop Inv-all μ-all
+close-requires-2 c κs = search needs
 
 mul-sets : tie.Need-mul-sets Inv-loop μ-loop Inv-all μ-all
 mul-sets c = omega arith
@@ -62,11 +90,10 @@ cast-rows : tie.Need-cast-rows Inv-loop μ-loop Inv-all μ-all
 cast-rows c =
     let l = c .before .before .before .before .before .loop in
     let t = c .before .before .before .before .loop-test in
-    let x = c .before .before .before .next-set in
-    let m = c .before .find in
+    let m = c .before .number-of in
     let small : m .result < mostSets = ⊎-elim
-    (λ w. new-small _ _ _ _ _ _ _ _ (l .inv) (t .taken) (x .result) (m .result) (x .ensures) (m .ensures) (w .0 .taken) (w .1 .left))
-    (λ w. old-small _ _ _ _ _ _ _ _ (l .inv) (t .taken) (x .result) (m .result) (x .ensures) (m .ensures) (w .0 .left))
+    (λ w. new-small _ _ _ _ _ _ _ _ _ _ _ (l .inv) (t .taken) (m .result) (m .ensures) (w .0 .taken) (w .1 .left))
+    (λ w. old-small _ _ _ _ _ _ _ _ _ _ _ (l .inv) (t .taken) (m .result) (m .ensures) (w .0 .left))
     (c .if2 .came)
     in
     omega arith
@@ -93,11 +120,10 @@ loop-again : tie.Need-loop-again Inv-loop μ-loop Inv-all μ-all
 loop-again c =
     let l = c .before .before .before .before .before .loop in
     let t = c .before .before .before .before .loop-test in
-    let x = c .before .before .before .next-set in
-    let m = c .before .find in
+    let m = c .before .number-of in
     ⊎-elim
-    (λ w. in-new _ _ _ _ _ _ _ _ (l .inv) (t .taken) (x .result) (m .result) (x .ensures) (m .ensures) _ _ (w .0 .taken) (w .1 .left) (w .2) (w .3))
-    (λ w. in-old _ _ _ _ _ _ _ _ (l .inv) (t .taken) (x .result) (m .result) (x .ensures) (m .ensures) _ _ (w .0 .left) (w .1) (w .2))
+    (λ w. in-new _ _ _ _ _ _ _ _ _ _ _ (l .inv) (t .taken) (m .result) (m .ensures) _ (w .2 .ensures) _ _ (w .0 .taken) (w .1 .left) (w .3) (w .4))
+    (λ w. in-old _ _ _ _ _ _ _ _ _ _ _ (l .inv) (t .taken) (m .result) (m .ensures) _ _ (w .0 .left) (w .1) (w .2))
     (c .if2 .came)
 
 add-k : tie.Need-add-k Inv-loop μ-loop Inv-all μ-all
@@ -107,30 +133,33 @@ all-less : tie.Need-all-less Inv-loop μ-loop Inv-all μ-all
 all-less c = omega arith
 
 all-again : tie.Need-all-again Inv-loop μ-loop Inv-all μ-all
-all-again c = (in-last _ _ _ _ _ _ _ _ (c .before .loop .inv) (c .loop-test .left), omega arith)
+all-again c = in-last _ _ _ _ _ _ _ _ _ _ _ (c .before .loop .inv) (c .loop-test .left)
 
 same-length : tie.Need-same-length Inv-loop μ-loop Inv-all μ-all
-same-length c = omega (arith, clear-rows _ _ (c .before .before .before .before .before .pre .1 .1))
+same-length c = omega (arith, clear-rows _ _ (c .before .before .before .before .before .before .pre .1 .1))
 
 same-length-2 : tie.Need-same-length-2 Inv-loop μ-loop Inv-all μ-all
-same-length-2 c = omega (arith, clear-sets _ _ (c .before .before .before .before .before .pre .1 .1))
+same-length-2 c = omega (arith, clear-sets _ _ (c .before .before .before .before .before .before .pre .1 .1))
 
 returns : tie.Need-returns Inv-loop μ-loop Inv-all μ-all
-returns c = whole _ _ _ _ _ _ (c .before .all .inv .0) (c .if1 .taken)
+unfolding tableOf
+returns c = whole _ _ _ _ _ _ (c .before .all .inv .at) (c .if1 .taken)
 
 same-length-3 : tie.Need-same-length-3 Inv-loop μ-loop Inv-all μ-all
-same-length-3 c = omega (arith, clear-rows _ _ (c .before .before .before .before .before .before .before .before .before .before .before .before .before .pre .1 .1))
+same-length-3 c =
+    omega (arith, clear-rows _ _ (c .before .before .before .before .before .before .before .before .before .before .before .before .before .before .before .pre .1 .1))
 
 same-length-4 : tie.Need-same-length-4 Inv-loop μ-loop Inv-all μ-all
-same-length-4 c = omega (arith, clear-sets _ _ (c .before .before .before .before .before .before .before .before .before .before .before .before .before .pre .1 .1))
+same-length-4 c =
+    omega (arith, clear-sets _ _ (c .before .before .before .before .before .before .before .before .before .before .before .before .before .before .before .pre .1 .1))
 
 returns-2 : tie.Need-returns-2 Inv-loop μ-loop Inv-all μ-all
+unfolding tableOf
 returns-2 c =
     let l = c .before .before .before .before .before .before .loop in
     let t = c .before .before .before .before .before .loop-test in
-    let x = c .before .before .before .before .next-set in
-    let m = c .before .before .find in
-    too-many _ _ _ _ (in-full _ _ _ _ _ _ _ _ (l .inv) (t .taken) (x .result) (m .result) (x .ensures) (m .ensures) (c .before .if2 .taken) (c .if3 .taken))
+    let m = c .before .before .number-of in
+    too-many _ _ _ _ (in-full _ _ _ _ _ _ _ _ _ _ _ (l .inv) (t .taken) (m .result) (m .ensures) (c .before .if2 .taken) (c .if3 .taken))
 
 pub number-sets-spec : {M : Type 1} → statement M
 number-sets-spec =
@@ -140,14 +169,19 @@ number-sets-spec =
     μ-loop
     Inv-all
     μ-all
+    close-requires
     slice-write-sets
     all-holds
-    mul-set
-    slice-read-set
+    mul-side-row
+    slice-read-side-row
+    side-row-requires
     loop-holds
-    next-set-requires
-    find-requires
+    cast-step
+    mul-step
+    element-copy-out-step
+    number-of-requires
     add-result
+    close-requires-2
     mul-sets
     slice-write-sets-2
     add-count

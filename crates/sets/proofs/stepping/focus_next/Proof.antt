@@ -1,22 +1,20 @@
 -- The step forwards, cut to the right set, is the next focus set.
 use Prim.Native.Nat.{ℕ}
-use mathlib.Core.Path.{refl, ap, _∙_}
+use mathlib.Core.Path.{ap, _∙_}
 use lib.Bits.{bitAnd}
 use Rattle.book.proofs.Accepted.{is-accepted}
 use Rattle.book.proofs.Sound.{accepted-sound}
-use Rattle.sets.specs.Stepping.{isEnd}
-use Rattle.sets.proofs.Closing.{focus-next}
+use Rattle.sets.proofs.Closing.{focus-pruned}
 use Rattle.sets.proofs.stepping.focus_next.Statement.{statement}
 use Rattle.sets.proofs.stepping.focus_next.Tie as tie
 
-step-requires : tie.Need-step-requires
-unfolding isEnd
-step-requires c κs = let a = c .before in (a .pre .0, (a .pre .1, (refl, refl)))
+focus-step-requires : tie.Need-focus-step-requires
+focus-step-requires c κs = let a = c .before in (a .pre .0, a .pre .1)
 
 returns : tie.Need-returns
 returns c =
     let a = c .before .before in
-    ap (λ (x : ℕ). bitAnd x (a .args .right)) (c .step .ensures) ∙ focus-next _ _ _ _ (accepted-sound _ _ (is-accepted _ (a .pre .0)))
+    ap (λ (x : ℕ). bitAnd x (a .args .right)) (c .focus-step .ensures) ∙ focus-pruned _ _ _ _ (accepted-sound _ _ (is-accepted _ (a .pre .0)))
 
 pub focus-next-spec : {M : Type 1} → statement M
-focus-next-spec = tie.close (tie.spec step-requires returns)
+focus-next-spec = tie.close (tie.spec focus-step-requires returns)

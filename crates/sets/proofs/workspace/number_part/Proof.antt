@@ -43,7 +43,7 @@ same-length-2 c = search needs
 
 returns : tie.Need-returns
 returns c =
-    placed-at _ _ (c .before .before .before .before .before .before .before .before .before .before .args .row) (c .before .before .before .before .before .before .before .before .before .before .args .set) (c .before .before .before .before .before .before .before .before .before .before .args .rows .now) (c .before .before .before .before .before .before .before .before .before .before .args .sets .now) _ _ (c .before .before .before .before .before .before .before .before .before .before .pre .1 .1 .0) (c .before .before .before .before .before .before .before .before .before .before .pre .1 .1 .1) (c .before .before .before .before .number-side .kept .1 .1 .1 .1 .1 .1 .1 .0) (c .before .before .before .before .number-side .kept .1 .1 .1 .1 .1 .1 .1 .1 .0) (c .before .before .before .before .number-side .ensures)
+    placed-at _ _ (c .before .before .before .before .before .before .before .before .before .before .args .row) (c .before .before .before .before .before .before .before .before .before .before .args .set) (c .before .before .before .before .before .before .before .before .before .before .args .rows .now) (c .before .before .before .before .before .before .before .before .before .before .args .sets .now) _ _ (c .before .before .before .before .before .before .before .before .before .before .pre .1 .1 .0) (c .before .before .before .before .before .before .before .before .before .before .pre .1 .1 .1) (c .before .before .before .before .number-side .kept .1 .1 .1 .1 .1 .1 .0) (c .before .before .before .before .number-side .kept .1 .1 .1 .1 .1 .1 .1 .0) (c .before .before .before .before .number-side .ensures)
 
 pub number-part-spec : {M : Type 1} → statement M
 number-part-spec =
