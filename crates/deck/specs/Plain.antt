@@ -1,8 +1,8 @@
 -- The answers of the C face, read as those of the operations: the same numbers.
 use Rattle.book.specs.declared.Checked.{Checked}
 use Rattle.sets.specs.declared.Built.{Built}
-use Rattle.rewriter.specs.declared.Rewritten.{Rewritten}
-use Rattle.rewriter.specs.declared.Accounted.{Accounted}
+use Rattle.output.specs.declared.Rewritten.{Rewritten}
+use Rattle.lines.specs.declared.Accounted.{Accounted}
 use Rattle.rewriter.specs.declared.shown.Bounds.{Bounds}
 use Rattle.deck.specs.declared.CChecked.{CChecked}
 use Rattle.deck.specs.declared.CBuilt.{CBuilt}

@@ -6,7 +6,7 @@ use mathlib.Core.Path.{_≡_}
 use mathlib.Core.List.{List}
 use lib.ListN.{length}
 use Rattle.rewriter.specs.Replies.{AfterRewrite, rewriteDef, AfterAccount, accountDef}
-use Rattle.rewriter.specs.Account.{lineLength}
+use Rattle.stretches.specs.Account.{lineLength}
 use Rattle.rewriter.proofs.Callers.{rewrite-out, rewrite-origins, rewrite-fits-out, rewrite-fits-origins, account-lines, account-fits}
 
 module _ (book tape rows sets scratch out origins : List ℕ) {after : AfterRewrite} (is : after ≡ rewriteDef book tape rows sets scratch out origins) where

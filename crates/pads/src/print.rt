@@ -2,7 +2,7 @@
 ghost use mathlib.Core.Path.{_≡_};
 ghost use Prim.Native.Nat.{_*_, _≤_, _<_};
 ghost use lib.ListN.{length};
-ghost use Rattle.rewriter.specs.Account.{lineLength};
+ghost use Rattle.stretches.specs.Account.{lineLength};
 ghost use Rattle.pads.specs.Hex.{digitOf};
 
 // The words of a line of the account.

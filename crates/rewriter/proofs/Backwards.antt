@@ -10,7 +10,7 @@ use lib.ListN.{length, take, drop, getD, set, length-set}
 use lib.Seq.{take-suc, drop-cons, drop-length, set-at, split-at, length-take-le, getD-set-same, drop-set-lt, append-snoc}
 use Rattle.book.specs.Language.{upFrom}
 use Rattle.sets.specs.Tables.{rightEntry}
-use Rattle.rewriter.specs.Replies.{onto}
+use Rattle.stretches.specs.Buffers.{onto}
 use Rattle.rewriter.specs.Opening.{rightNumber, rightAll}
 
 -- what a function says of the numbers from a on: how many, and the one at k

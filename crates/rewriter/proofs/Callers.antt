@@ -10,7 +10,7 @@ use lib.ListN.{length}
 use Rattle.book.specs.Reading.{bookOf}
 use Rattle.book.specs.Language.{rulesIn}
 use Rattle.sets.proofs.Lengths.{build-rows, build-sets}
-use Rattle.rewriter.specs.Account.{lineLength}
+use Rattle.stretches.specs.Account.{lineLength}
 use Rattle.rewriter.specs.Replies.{rightNumbers, AfterReady, readyDef, AfterRewrite, rewriteDef, AfterAccount, accountDef}
 use Rattle.rewriter.proofs.Onto.{onto-length}
 use Rattle.rewriter.proofs.Tapes.{by-test, tape-fits-out, tape-fits-origins, tape-out, tape-origins, lines-fit, lines-kept}

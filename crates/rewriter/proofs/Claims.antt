@@ -1,5 +1,5 @@
--- The theorems about rewriting and account, on one page. Read them with specs/Paper.antt (source document 001) and specs/Sentences.antt (document 01).
--- No hypothesis on the book or the tape, but where an accepted book is named.
+-- The theorems about rewriting and account, on one page. Read them with Paper.antt (source document 001) and Sentences.antt (document 01) of
+-- crates/stretches/specs. No hypothesis on the book or the tape, but where an accepted book is named.
 use Prim.Native.Nat.{ℕ, _+_, _*_, _≤_, _<_}
 use mathlib.Core.List.{List, [], _∷_, map, List·Memᴰ}
 use mathlib.Core.Path.{_≡_}
@@ -7,26 +7,26 @@ use mathlib.Core.Logic.{_↔_, _⊎_}
 use lib.ListN.{length}
 use Rattle.book.specs.Reading.{Book, checkDef}
 use Rattle.book.specs.Language.{Rules, rules, rulesIn}
-use Rattle.rewriter.specs.Candidates.{ruleOf, taken}
-use Rattle.rewriter.specs.Output.{Mark, rewriting, symbolsOf, originsOf}
-use Rattle.rewriter.specs.Account.{Line, account, lineLength, wordsIn}
+use Rattle.stretches.specs.Candidates.{ruleOf, taken}
+use Rattle.stretches.specs.Output.{Mark, rewriting, symbolsOf, originsOf}
+use Rattle.stretches.specs.Account.{Line, account, lineLength, wordsIn}
 use Rattle.rewriter.specs.Show.{between, boundsOf}
-use Rattle.rewriter.specs.Paper.{Context, start, end, RC, BookRC, C, Earliest, Over, Overlap, CLM, CLML, RewriteLML}
-use Rattle.rewriter.specs.Sentences.{Candidate, Taken, Takes, Sorted, SameCandidate, lineNumber, candidateCount, Judged, takenLines, lineOf, Chain, replace, removed, writes, keptSymbols, writtenWords, Shuffled}
-use Rattle.rewriter.specs.Books.{bookP}
-use Rattle.rewriter.specs.Table.{rewritten, rows, tape8, table}
-use Rattle.rewriter.proofs.Greedy as Greedy
-use Rattle.rewriter.proofs.Walks as Walks
-use Rattle.rewriter.proofs.Stretches as Stretches
-use Rattle.rewriter.proofs.Rewritings as Rewritings
-use Rattle.rewriter.proofs.Sorting as Sorting
-use Rattle.rewriter.proofs.Accounts as Accounts
-use Rattle.rewriter.proofs.Replaced as Replaced
-use Rattle.rewriter.proofs.Lengths as Lengths
-use Rattle.rewriter.proofs.Kept as Kept
-use Rattle.rewriter.proofs.Counts as Counts
-use Rattle.rewriter.proofs.Batches as Batches
-use Rattle.rewriter.proofs.NoEmpty as NoEmpty
+use Rattle.stretches.specs.Paper.{Context, start, end, RC, BookRC, C, Earliest, Over, Overlap, CLM, CLML, RewriteLML}
+use Rattle.stretches.specs.Sentences.{Candidate, Taken, Takes, Sorted, SameCandidate, lineNumber, candidateCount, Judged, takenLines, lineOf, Chain, replace, removed, writes, keptSymbols, writtenWords, Shuffled}
+use Rattle.stretches.specs.Books.{bookP}
+use Rattle.stretches.specs.Table.{rewritten, rows, tape8, table}
+use Rattle.stretches.proofs.Greedy as Greedy
+use Rattle.stretches.proofs.Walks as Walks
+use Rattle.stretches.proofs.Stretches as Stretches
+use Rattle.stretches.proofs.Rewritings as Rewritings
+use Rattle.stretches.proofs.Sorting as Sorting
+use Rattle.stretches.proofs.Accounts as Accounts
+use Rattle.stretches.proofs.Replaced as Replaced
+use Rattle.stretches.proofs.Lengths as Lengths
+use Rattle.stretches.proofs.Kept as Kept
+use Rattle.stretches.proofs.Counts as Counts
+use Rattle.stretches.proofs.Batches as Batches
+use Rattle.stretches.proofs.NoEmpty as NoEmpty
 use Rattle.rewriter.proofs.Showing as Showing
 
 -- 0. The proved table: cases 1 to 11 of document 01, from the books' bytes. (P's account of case 8 is `account8` beside it.)

@@ -14,10 +14,11 @@ use borrow.Author.Tests.{eq-eqb, ne-eqb, lt-ltb, le-ltb, ltb-true, ltb-false, le
 use Rattle.book.specs.Format.{symbolCount}
 use Rattle.book.specs.Reading.{checkDef}
 use Rattle.sets.specs.Workspace.{rowBytes, setWords}
-use Rattle.rewriter.specs.Replies.{longestTape, firstBad, refusal, early}
-use Rattle.rewriter.specs.Opening.{greatest, Symbols}
+use Rattle.stretches.specs.Buffers.{longestTape, greatest}
+use Rattle.rewriter.specs.Replies.{firstBad, refusal, early}
+use Rattle.rewriter.specs.Opening.{Symbols}
 use Rattle.rewriter.specs.declared.Refusal.{Refusal}
-use Rattle.rewriter.proofs.Greatest.{greatest-all}
+use Rattle.stretches.proofs.Greatest.{greatest-all}
 
 -- the first bad symbol: here, later, nowhere
 pub bad-here : (t : List ℕ) (i : ℕ) → i < length t → symbolCount ≤ getD t i 0 → firstBad (drop i t) ≡ 0

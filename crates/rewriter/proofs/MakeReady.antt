@@ -16,8 +16,9 @@ use Rattle.sets.specs.Counting.{Tape}
 use Rattle.sets.specs.Tables.{rightSet}
 use Rattle.sets.specs.declared.Built.{Built}
 use Rattle.sets.proofs.Tables.{tables, right-walk, right-number}
-use Rattle.rewriter.specs.Replies.{refusal, early, rightNumbers, onto, AfterReady, readyLeaves, readyDef}
-use Rattle.rewriter.specs.Ready.{Ready}
+use Rattle.rewriter.specs.Replies.{refusal, early, rightNumbers, AfterReady, readyLeaves, readyDef}
+use Rattle.stretches.specs.Buffers.{onto}
+use Rattle.stretches.specs.Ready.{Ready}
 use Rattle.rewriter.specs.Opening.{opened, Symbols, rightNumber, rightAll}
 use Rattle.rewriter.specs.declared.Refusal.{Refusal}
 use Rattle.rewriter.specs.declared.refusals.Opened.{Opened}

@@ -7,8 +7,8 @@ use lib.ListN.{length}
 use Rattle.rewriter.specs.Replies.{rewriteLeaves, rewriteDef, accountLeaves, accountDef}
 use Rattle.rewriter.specs.Show.{boundsOf, showDef}
 use Rattle.rewriter.specs.declared.shown.Bounds.{Bounds}
-use Rattle.rewriter.specs.declared.Rewritten.{Rewritten}
-use Rattle.rewriter.specs.declared.Accounted.{Accounted}
+use Rattle.output.specs.declared.Rewritten.{Rewritten}
+use Rattle.lines.specs.declared.Accounted.{Accounted}
 
 module _ (book tape rows sets scratch : List ℕ) where
   pub one-rewrite : (out origins : List ℕ) (r r′ : Rewritten) (R S X O G R′ S′ X′ O′ G′ : List ℕ)

@@ -8,13 +8,13 @@ use lib.ListN.{length, getD, List·getD-append}
 use lib.Seq.{getD-append-add}
 use Rattle.book.specs.Reading.{checkDef}
 use Rattle.book.specs.Language.{rulesIn}
-use Rattle.rewriter.specs.Account.{Line, account, lineWords, lineLength, line-length, wordsIn}
-use Rattle.rewriter.specs.Sentences.{lineNumber}
+use Rattle.stretches.specs.Account.{Line, account, lineWords, lineLength, line-length, wordsIn}
+use Rattle.stretches.specs.Sentences.{lineNumber}
 use Rattle.rewriter.specs.Show.{wordOfLine, startIn, endIn, between, boundsOf}
-use Rattle.rewriter.proofs.Sorting.{number-in}
-use Rattle.rewriter.proofs.Accounts.{account-candidates}
-use Rattle.rewriter.proofs.Counts.{words-length}
-use Rattle.rewriter.proofs.NoEmpty.{no-empty, past-start}
+use Rattle.stretches.proofs.Sorting.{number-in}
+use Rattle.stretches.proofs.Accounts.{account-candidates}
+use Rattle.stretches.proofs.Counts.{words-length}
+use Rattle.stretches.proofs.NoEmpty.{no-empty, past-start}
 
 pub bounds-short : (n : ℕ) (l : List ℕ) (k : ℕ) → length l < lineLength * (k + 1) → between 0 0 ≡ boundsOf n l k
 unfolding boundsOf

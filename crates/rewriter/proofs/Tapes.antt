@@ -10,10 +10,11 @@ use lib.ListN.{length, take, drop}
 use borrow.Author.Tests.{leb-true}
 use Rattle.book.specs.Language.{Rules}
 use Rattle.book.proofs.Laws.{and-left, and-right}
-use Rattle.rewriter.specs.Output.{rewriting, symbolsOf, originsOf}
-use Rattle.rewriter.specs.Account.{account, lineLength, wordsIn}
-use Rattle.rewriter.specs.Replies.{AfterTape, tapeDef, AfterLines, linesDef}
-use Rattle.rewriter.proofs.Counts.{words-length, symbols-length, origins-length}
+use Rattle.stretches.specs.Output.{rewriting, symbolsOf, originsOf}
+use Rattle.stretches.specs.Account.{account, lineLength, wordsIn}
+use Rattle.output.specs.Tape.{AfterTape, tapeDef}
+use Rattle.lines.specs.Listing.{AfterLines, linesDef}
+use Rattle.stretches.proofs.Counts.{words-length, symbols-length, origins-length}
 use Rattle.rewriter.proofs.Onto.{onto-length, onto-front}
 
 -- what holds of both sides of a test, each with what the test says

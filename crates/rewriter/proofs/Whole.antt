@@ -8,10 +8,12 @@ use Rattle.book.specs.Reading.{checkDef, bookOf}
 use Rattle.book.specs.Language.{rulesIn}
 use Rattle.book.specs.declared.Checked.{Checked}
 use Rattle.book.proofs.Claims.{counts}
-use Rattle.rewriter.specs.Replies.{AfterReady, readyLeaves, readyDef, AfterTape, tapeLeaves, tapeDef, AfterLines, linesLeave, linesDef, rewriteLeaves, rewriteFrom, rewriteDef, accountLeaves, accountFrom, accountDef}
+use Rattle.rewriter.specs.Replies.{AfterReady, readyLeaves, readyDef, rewriteLeaves, rewriteFrom, rewriteDef, accountLeaves, accountFrom, accountDef}
+use Rattle.output.specs.Tape.{AfterTape, tapeLeaves, tapeDef}
+use Rattle.lines.specs.Listing.{AfterLines, linesLeave, linesDef}
 use Rattle.rewriter.specs.declared.Refusal.{Refusal}
-use Rattle.rewriter.specs.declared.Rewritten.{Rewritten}
-use Rattle.rewriter.specs.declared.Accounted.{Accounted}
+use Rattle.output.specs.declared.Rewritten.{Rewritten}
+use Rattle.lines.specs.declared.Accounted.{Accounted}
 
 -- CHECK's count of an accepted book's rules
 pub rules-counted : (book : List ℕ) (n : ℕ) → checkDef book .reply ≡ 0 → n ≡ checkDef book .rules → n ≡ length (bookOf book .words)

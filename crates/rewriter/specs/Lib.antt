@@ -1,14 +1,3 @@
-pub mod Candidates
-pub mod Output
-pub mod Account
 pub mod Show
-pub mod Paper
-pub mod Sentences
-pub mod Books
-pub mod Table
-pub mod Insertions
 pub mod Replies
-pub mod Ready
-pub mod Passes
-pub mod Lines
 pub mod Opening

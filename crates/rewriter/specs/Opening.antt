@@ -1,7 +1,7 @@
 -- What the functions before the forward passes hand on, for their contracts: the refusal with the number of the book's rules, the greatest symbol,
 -- and the numbers of the right sets as the code walks to them. What the refusals and the numbers are is `early` and `rightNumbers` of Replies.
-use Prim.Native.Nat.{ℕ, suc, max, _<_}
-use mathlib.Core.List.{List, [], _∷_, map}
+use Prim.Native.Nat.{ℕ, suc, _<_}
+use mathlib.Core.List.{List, map}
 use lib.ListN.{length, drop, getD}
 use Rattle.book.specs.Format.{symbolCount}
 use Rattle.book.specs.Language.{upFrom}
@@ -12,11 +12,6 @@ use Rattle.rewriter.specs.declared.refusals.Opened.{Opened}
 
 abbrev pub opened : Refusal → ℕ → Opened
 opened refusal rules = record { refusal = refusal; rules = rules }
-
--- the greatest of n and the numbers of a list
-unfoldable pub greatest : ℕ → List ℕ → ℕ
-greatest n [] = n
-greatest n (x ∷ xs) = greatest (max n x) xs
 
 -- no symbol is refused with 10
 abbrev pub Symbols : List ℕ → Type 0

@@ -1,25 +1,21 @@
 -- Document 01, "Reply numbers": what REWRITE and ACCOUNT answer and leave in every lent buffer, for any book, tape and buffers.
-use Prim.Native.Nat.{ℕ, zero, suc, _+_, _*_}
-use mathlib.Core.List.{List, [], _∷_, _++_, map}
-use mathlib.Core.Bool.{Bool, cond, not, _&&_, _||_}
+use Prim.Native.Nat.{ℕ, suc}
+use mathlib.Core.List.{List, [], _∷_, map}
+use mathlib.Core.Bool.{cond, not, _||_}
 use lib.Dec.{leb, ltb, eqb}
-use lib.ListN.{length, drop}
+use lib.ListN.{length}
 use Rattle.book.specs.Format.{symbolCount}
 use Rattle.book.specs.Reading.{Book, checkDef, bookOf}
-use Rattle.book.specs.Language.{Rules, rulesIn, upFrom}
+use Rattle.book.specs.Language.{rulesIn, upFrom}
 use Rattle.sets.specs.Sets.{rightAt}
-use Rattle.sets.specs.Numbering.{Table, idx}
+use Rattle.sets.specs.Numbering.{idx}
 use Rattle.sets.specs.Workspace.{AfterBuild, rowBytes, setWords, rightTable, buildDef}
-use Rattle.rewriter.specs.Candidates.{taken}
-use Rattle.rewriter.specs.Output.{rewriting, symbolsOf, originsOf}
-use Rattle.rewriter.specs.Account.{account, lineLength, wordsIn}
+use Rattle.stretches.specs.Buffers.{longestTape, onto}
+use Rattle.output.specs.Tape.{AfterTape, tapeDef}
+use Rattle.lines.specs.Listing.{AfterLines, linesDef}
 use Rattle.rewriter.specs.declared.Refusal.{Refusal}
-use Rattle.rewriter.specs.declared.Rewritten.{Rewritten}
-use Rattle.rewriter.specs.declared.Accounted.{Accounted}
-
--- "tape 0 to 4,096 symbols"
-abbrev pub longestTape : ℕ
-longestTape = 4096
+use Rattle.output.specs.declared.Rewritten.{Rewritten}
+use Rattle.lines.specs.declared.Accounted.{Accounted}
 
 -- "10: a tape symbol above 15; first such position": that position, or the tape's length
 unfoldable pub firstBad : List ℕ → ℕ
@@ -43,10 +39,6 @@ early book tape rows sets scratch =
 unfoldable pub rightNumbers : Book → List ℕ → List ℕ
 rightNumbers b t = map (λ (i : ℕ). idx (rightTable b .sets) (rightAt b t i)) (upFrom 0 (suc (length t)))
 
--- a list written over the front of another: "Acceptance writes only the front of each output buffer."
-abbrev pub onto : List ℕ → List ℕ → List ℕ
-onto v l = v ++ drop (length v) l
-
 -- what stands after the book is checked and built and the tape read backwards: "1 to 12 change no buffer. 13 and 14 leave the workspace parts
 -- all 0 and nothing else changed."
 pub record AfterReady : Type 0 where
@@ -68,36 +60,6 @@ readyDef book tape rows sets scratch =
     cond (eqb (early book tape (length rows) (length sets) (length scratch) .reply) 0)
     (afterBuild book tape scratch (buildDef book rows sets))
     (readyLeaves (early book tape (length rows) (length sets) (length scratch)) rows sets scratch)
-
--- one tape after that: "15: an output buffer shorter than the output; symbols needed"; outputs and origins are then unchanged
-pub record AfterTape : Type 0 where
-  pub answer : Rewritten
-  pub out : List ℕ
-  pub origins : List ℕ
-
-abbrev pub tapeLeaves : Rewritten → List ℕ → List ℕ → AfterTape
-tapeLeaves answer out origins = record { answer = answer; out = out; origins = origins }
-
-unfoldable pub tapeDef : Rules → List ℕ → List ℕ → List ℕ → AfterTape
-tapeDef b tape out origins =
-    cond (leb (length (rewriting b tape)) (length out) && leb (length (rewriting b tape)) (length origins))
-    (tapeLeaves (record { reply = 0; place = 0; length = length (rewriting b tape); taken = length (taken b tape) })
-    (onto (symbolsOf (rewriting b tape)) out) (onto (originsOf (rewriting b tape)) origins))
-    (tapeLeaves (record { reply = 15; place = length (rewriting b tape); length = 0; taken = 0 }) out origins)
-
--- the account after that: "15: the account shorter than five words a candidate; words needed"
-pub record AfterLines : Type 0 where
-  pub answer : Accounted
-  pub lines : List ℕ
-
-abbrev pub linesLeave : Accounted → List ℕ → AfterLines
-linesLeave answer lines = record { answer = answer; lines = lines }
-
-unfoldable pub linesDef : Rules → List ℕ → List ℕ → AfterLines
-linesDef b tape lines =
-    cond (leb (lineLength * length (account b tape)) (length lines))
-    (linesLeave (record { reply = 0; place = 0; candidates = length (account b tape) }) (onto (wordsIn (account b tape)) lines))
-    (linesLeave (record { reply = 15; place = lineLength * length (account b tape); candidates = 0 }) lines)
 
 -- REWRITE
 pub record AfterRewrite : Type 0 where

@@ -5,7 +5,7 @@ use mathlib.Core.List.{List}
 use mathlib.Core.Bool.{cond}
 use lib.Dec.{leb, ltb}
 use lib.ListN.{length, getD, take, drop}
-use Rattle.rewriter.specs.Account.{lineLength}
+use Rattle.stretches.specs.Account.{lineLength}
 use Rattle.rewriter.specs.declared.shown.Bounds.{Bounds}
 
 -- word w of line k in the words of an account; lines are counted from 0

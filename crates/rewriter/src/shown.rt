@@ -4,7 +4,7 @@ ghost use mathlib.Core.Path.{_≡_};
 ghost use Prim.Native.Nat.{_+_, _≤_};
 ghost use lib.ListN.{length};
 ghost use Rattle.rewriter.specs.Show.{boundsOf, showDef};
-use super::LINE;
+use lines::LINE;
 
 // A part of the tape: from start up to and not including end.
 pub struct Bounds {

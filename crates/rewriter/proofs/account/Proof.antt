@@ -6,7 +6,7 @@ use Rattle.rewriter.proofs.account.Statement.{statement}
 use Rattle.rewriter.proofs.account.Tie as tie
 use Rattle.rewriter.proofs.account.Reads as reads
 use Rattle.rewriter.proofs.account.Lts as lts
-use Rattle.rewriter.proofs.listing.list.Reads as list-reads
+use Rattle.lines.proofs.list.Reads as list-reads
 use Rattle.rewriter.proofs.ready.make_ready.Reads as make-ready-reads
 
 -- src/lib.rt:76:9

@@ -6,7 +6,7 @@ use Rattle.rewriter.proofs.rewrite.Statement.{statement}
 use Rattle.rewriter.proofs.rewrite.Tie as tie
 use Rattle.rewriter.proofs.rewrite.Reads as reads
 use Rattle.rewriter.proofs.rewrite.Lts as lts
-use Rattle.rewriter.proofs.passes.finish.Reads as finish-reads
+use Rattle.output.proofs.finish.Reads as finish-reads
 use Rattle.rewriter.proofs.ready.make_ready.Reads as make-ready-reads
 
 -- src/lib.rt:53:9

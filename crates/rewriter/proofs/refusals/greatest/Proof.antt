@@ -4,7 +4,7 @@ use mathlib.Core.Path.{refl}
 use native.Mathlib.Omega.{arith}
 use borrow.Author.Needs.{needs}
 use lib.ListN.{length}
-use Rattle.rewriter.proofs.Greatest.{Topped, topped-start, topped-more, topped-less, topped-end}
+use Rattle.stretches.proofs.Greatest.{Topped, topped-start, topped-more, topped-less, topped-end}
 use Rattle.rewriter.proofs.refusals.greatest.Statement.{statement}
 use Rattle.rewriter.proofs.refusals.greatest.Tie as tie
 

@@ -1,0 +1,210 @@
+-- Lines written one after the other from a place of the account on: what is written and what is still to come make the whole. Then the lines of
+-- an end, rule after rule, and of a start, end after end. Assumes nothing.
+use Prim.Native.Nat.{ℕ, suc, _+_, _-_, _≤_, _<_}
+use mathlib.Core.Path.{_≡_, refl, sym, ap, _∙_, subst}
+use mathlib.Core.Bool.{Bool, true, false}
+use mathlib.Core.List.{List, [], _∷_, _++_, append-assoc}
+use native.Mathlib.Omega.{arith}
+use native.Mathlib.Numerals.{add-one}
+use lib.Dec.{T}
+use lib.ListN.{length, getD, take, set, length-append}
+use lib.Seq.{sets-eq}
+use Rattle.book.specs.Reading.{Book, bookOf}
+use Rattle.book.specs.Language.{Rules, rulesIn}
+use Rattle.sets.specs.Sets.{leftAt, focusFirst, focusNext}
+use Rattle.sets.specs.Numbering.{mostSets}
+use Rattle.stretches.specs.Candidates.{candidate, keep}
+use Rattle.stretches.specs.Account.{Line, each, lineWords, lineLength, wordsIn}
+use Rattle.stretches.specs.Ready.{Rights}
+use Rattle.stretches.specs.Position.{hits}
+use Rattle.lines.specs.Lines.{lineBy, hitLines, endLines, startLines, LinesFit, LinesPut}
+use Rattle.lines.specs.declared.lines.Deciding.{Deciding}
+use Rattle.stretches.proofs.Lists.{each-none, each-same, keep-not}
+use Rattle.stretches.proofs.NoEmpty.{NoEmpty, no-empty, past-start}
+use Rattle.stretches.proofs.Front.{Front, front-begin, front-place, front-put, front-finish, put-nil}
+use Rattle.stretches.proofs.Pruned.{Pruned, pruned-start, pruned-turn, pruned-hits, pruned-dead}
+
+words-append : (a b : List Line) → wordsIn (a ++ b) ≡ wordsIn a ++ wordsIn b
+unfolding wordsIn
+words-append [] b = refl
+words-append (x ∷ a) b = ap (λ (r : List ℕ). lineWords x ++ r) (words-append a b) ∙ sym (append-assoc (lineWords x) (wordsIn a) (wordsIn b))
+
+words-none : wordsIn [] ≡ []
+unfolding wordsIn
+words-none = refl
+
+-- ---- one line
+
+-- the stores of a line's words, one after the other
+pub put-words : (x : Line) (l : List ℕ) (at : ℕ) → at + lineLength ≤ length l
+    → LinesPut (x ∷ []) at l (at + lineLength) (set (set (set (set (set l at (x .rule)) (at + 1) (x .start)) (at + 2) (x .end)) (at + 3) (x .verdict)) (at + 4) (x .deciding))
+unfolding wordsIn
+put-words x l at h =
+    let p1 : at + 1 ≡ suc at = omega arith in
+    let p2 : at + 2 ≡ suc (suc at) = omega arith in
+    let p3 : at + 3 ≡ suc (suc (suc at)) = omega arith in
+    let p4 : at + 4 ≡ suc (suc (suc (suc at))) = omega arith in
+    record { next = refl; lines = rw (p1, p2, p3, p4) (sets-eq (lineWords x) l at h) }
+
+-- the line of a rule that passes, and none of one that does not
+pub kept-room : (hit c : Bool) (x : Line) (at : ℕ) (l : List ℕ) → hit ≡ c → hit ≡ true → LinesFit (keep c x) at l → at + lineLength ≤ length l
+unfolding wordsIn
+kept-room hit c x at l e f h = subst (λ (d : Bool). LinesFit (keep d x) at l) (sym e ∙ f) h
+
+pub kept-yes : (hit c : Bool) (x : Line) (at : ℕ) (l : List ℕ) (at′ : ℕ) (l′ : List ℕ) → hit ≡ c → hit ≡ true → LinesPut (x ∷ []) at l at′ l′ → LinesPut (keep c x) at l at′ l′
+kept-yes hit c x at l at′ l′ e f h = subst (λ (d : Bool). LinesPut (keep d x) at l at′ l′) (sym f ∙ e) h
+
+put-none : (ls : List Line) (at : ℕ) (l : List ℕ) → ls ≡ [] → LinesPut ls at l at l
+unfolding wordsIn
+put-none ls at l e = subst (λ (x : List Line). LinesPut x at l at l) (sym e) (record { next = omega arith; lines = put-nil l at })
+
+pub kept-no : (hit c : Bool) (x : Line) (at : ℕ) (l : List ℕ) → hit ≡ c → hit ≡ false → LinesPut (keep c x) at l at l
+kept-no hit c x at l e f = put-none (keep c x) at l (ap (λ (d : Bool). keep d x) (sym e ∙ f))
+
+-- ---- lines after lines
+
+-- of the lines that are written from `at` on, `more` is still to come at p
+pub record Written (whole : List Line) (l₀ : List ℕ) (at : ℕ) (l : List ℕ) (p : ℕ) (more : List Line) : Type 0 where
+  pub room : LinesFit whole at l₀
+  pub front : Front l₀ l p (wordsIn more) (take at l₀ ++ wordsIn whole)
+
+pub written-start : (whole : List Line) (l : List ℕ) (at : ℕ) → LinesFit whole at l → Written whole l at l at whole
+written-start whole l at h = record { room = h; front = front-begin l (wordsIn whole) at (omega arith) }
+
+module _ (whole : List Line) (l₀ : List ℕ) (at : ℕ) (l : List ℕ) (p : ℕ) (more : List Line) (was : Written whole l₀ at l p more) where
+  module _ (now later : List Line) (e : more ≡ now ++ later) where
+    split : wordsIn more ≡ wordsIn now ++ wordsIn later
+    split = ap wordsIn e ∙ words-append now later
+
+    pub written-room : LinesFit now p l
+    written-room =
+        let h = was .room in
+        let c = front-place l₀ l (wordsIn whole) at p (omega arith) (wordsIn more) (was .front) in
+        omega (arith, ap length split ∙ length-append (wordsIn now) (wordsIn later), was .front .same)
+
+    pub written-turn : (p′ : ℕ) (l′ : List ℕ) → LinesPut now p l p′ l′ → Written whole l₀ at l′ p′ later
+    written-turn p′ l′ did = rw (did .next, did .lines) (record {
+      room = was .room;
+      front = front-put l₀ l p (wordsIn now) (wordsIn later) (take at l₀ ++ wordsIn whole) written-room (subst (λ (x : List ℕ). Front l₀ l p x (take at l₀ ++ wordsIn whole)) split (was .front));
+    })
+
+  pub written-end : more ≡ [] → LinesPut whole at l₀ p l
+  written-end e =
+      let h = was .room in
+      let z = front-finish l₀ l (wordsIn whole) at p (omega arith) (subst (λ (x : List ℕ). Front l₀ l p x (take at l₀ ++ wordsIn whole)) (ap wordsIn e ∙ words-none) (was .front)) in
+      record { next = z .0; lines = z .1 }
+
+-- ---- one end
+
+module _ (b : Book) (X R i j : ℕ) (d : Deciding) where
+  abbrev oneRule : ℕ → List Line
+  oneRule r = keep (hits b X R r) (lineBy i j r d)
+
+  -- the lines of the rules from r on
+  abbrev pub fromRule : ℕ → List Line
+  fromRule r = each oneRule r (length (b .words) - r)
+
+-- the lines of the rules below r are written
+pub record Lined (b : Book) (X R i j : ℕ) (d : Deciding) (l₀ l : List ℕ) (at p r : ℕ) : Type 0 where
+  pub within : r ≤ length (b .words)
+  pub written : Written (hitLines b X R i j d) l₀ at l p (fromRule b X R i j d r)
+
+module _ (b : Book) (X R i j : ℕ) (d : Deciding) where
+  pub lined-none : (l : List ℕ) (at : ℕ) → ((r : ℕ) → hits b X R r ≡ false) → LinesPut (hitLines b X R i j d) at l at l
+  unfolding hitLines
+  lined-none l at h = put-none (hitLines b X R i j d) at l (each-none (oneRule b X R i j d) 0 (length (b .words)) (λ r k g. ap (λ (c : Bool). keep c (lineBy i j r d)) (h r)))
+
+  pub lined-start : (l : List ℕ) (at : ℕ) → LinesFit (hitLines b X R i j d) at l → Lined b X R i j d l l at at 0
+  unfolding hitLines
+  lined-start l at h =
+      let z : length (b .words) ≡ length (b .words) - 0 = omega arith in
+      record { within = omega arith; written = subst (λ (n : ℕ). Written (hitLines b X R i j d) l at l at (each (oneRule b X R i j d) 0 n)) z (written-start (hitLines b X R i j d) l at h) }
+
+  module _ (l₀ l : List ℕ) (at p r : ℕ) (was : Lined b X R i j d l₀ l at p r) where
+    module _ (inside : r < length (b .words)) where
+      rule-step : fromRule b X R i j d r ≡ oneRule b X R i j d r ++ fromRule b X R i j d (suc r)
+      rule-step = let z : length (b .words) - r ≡ suc (length (b .words) - suc r) = omega arith in ap (each (oneRule b X R i j d) r) z
+
+      pub lined-room : LinesFit (keep (hits b X R r) (lineBy i j r d)) p l
+      lined-room = written-room (hitLines b X R i j d) l₀ at l p (fromRule b X R i j d r) (was .written) (oneRule b X R i j d r) (fromRule b X R i j d (suc r)) rule-step
+
+      pub lined-turn : (p′ : ℕ) (l′ : List ℕ) → LinesPut (keep (hits b X R r) (lineBy i j r d)) p l p′ l′ → Lined b X R i j d l₀ l′ at p′ (r + 1)
+      lined-turn p′ l′ did = rw add-one (record {
+        within = inside;
+        written = written-turn (hitLines b X R i j d) l₀ at l p (fromRule b X R i j d r) (was .written) (oneRule b X R i j d r) (fromRule b X R i j d (suc r)) rule-step p′ l′ did;
+      })
+
+    pub lined-end : length (b .words) ≤ r → LinesPut (hitLines b X R i j d) at l₀ p l
+    lined-end h =
+        let z : length (b .words) - r ≡ 0 = omega arith in
+        written-end (hitLines b X R i j d) l₀ at l p (fromRule b X R i j d r) (was .written) (ap (each (oneRule b X R i j d) r) z)
+
+-- ---- one start
+
+module _ (b : Rules) (t : List ℕ) (i : ℕ) (d : Deciding) where
+  -- an end where no rule has a candidate
+  end-none : (j : ℕ) → ((r : ℕ) → r < length (b .words) → T (candidate b t i j r) → ⊥) → endLines b t i d j ≡ []
+  end-none j h = each-none (λ (r : ℕ). keep (candidate b t i j r) (lineBy i j r d)) 0 (length (b .words)) (λ r k g. keep-not (candidate b t i j r) (lineBy i j r d) (h r (omega arith)))
+
+  -- the lines of the ends past j
+  abbrev pub pastEnd : ℕ → List Line
+  pastEnd j = each (endLines b t i d) (suc j) (length t - j)
+
+  module _ (none : NoEmpty b) where
+    own-end : i ≤ length t → endLines b t i d i ≡ []
+    own-end h = end-none i (λ r k c. let z = past-start b t none i i r (record { ordered = omega arith; inside = h; known = k; holds = c }) in omega arith)
+
+    pub end-start : i ≤ length t → startLines b t i d ≡ pastEnd i
+    unfolding startLines
+    end-start h =
+        let z : suc (length t) - i ≡ suc (length t - i) = omega arith in
+        ap (each (endLines b t i d) i) z ∙ ap (λ (x : List Line). x ++ pastEnd i) (own-end h)
+
+  pub end-turn : (j : ℕ) → j < length t → pastEnd j ≡ endLines b t i d (suc j) ++ pastEnd (suc j)
+  end-turn j h = let z : length t - j ≡ suc (length t - suc j) = omega arith in ap (each (endLines b t i d) (suc j)) z
+
+  pub end-end : (j : ℕ) → length t ≤ j → pastEnd j ≡ []
+  end-end j h = let z : length t - j ≡ 0 = omega arith in ap (each (endLines b t i d) (suc j)) z
+
+  pub end-rest : (j : ℕ) → ((r k : ℕ) → j ≤ k → T (candidate b t i k r) → ⊥) → pastEnd j ≡ []
+  end-rest j h = each-none (endLines b t i d) (suc j) (length t - j) (λ k g f. end-none k (λ r x. h r k (omega arith)))
+
+pub record Listed (book t : List ℕ) (i : ℕ) (d : Deciding) (l₀ l : List ℕ) (at p j set : ℕ) : Type 0 where
+  pub walk : Pruned (bookOf book) t i j set
+  pub written : Written (startLines (rulesIn book) t i d) l₀ at l p (pastEnd (rulesIn book) t i d j)
+
+module _ (book t sets scratch : List ℕ) (seen : Rights book t sets scratch) (i : ℕ) (d : Deciding) where
+  pub listed-start : (L R F : ℕ) (l : List ℕ) (at : ℕ) → i ≤ length t → L ≡ leftAt (bookOf book) t i → R ≡ getD sets (mostSets + getD scratch i 0) 0 → F ≡ focusFirst (bookOf book) L R
+      → LinesFit (startLines (rulesIn book) t i d) at l → Listed book t i d l l at at i F
+  listed-start L R F l at k e f g h = record {
+    walk = pruned-start book t sets scratch seen i L R F k e f g;
+    written = subst (Written (startLines (rulesIn book) t i d) l at l at) (end-start (rulesIn book) t i d (no-empty book (seen .accepted)) k) (written-start (startLines (rulesIn book) t i d) l at h);
+  }
+
+  module _ (l₀ l : List ℕ) (at p j set : ℕ) (was : Listed book t i d l₀ l at p j set) where
+    module _ (inside : j < length t) (R X : ℕ) (e : R ≡ getD sets (mostSets + getD scratch (j + 1) 0) 0) (f : X ≡ focusNext (bookOf book) set (getD t j 0) R) where
+      lines-are : hitLines (bookOf book) X R i (j + 1) d ≡ endLines (rulesIn book) t i d (suc j)
+      unfolding hitLines
+      lines-are = rw add-one (each-same (λ (r : ℕ). keep (hits (bookOf book) X R r) (lineBy i (suc j) r d)) (λ (r : ℕ). keep (candidate (rulesIn book) t i (suc j) r) (lineBy i (suc j) r d)) 0 (length (bookOf book .words))
+          (λ r h k. ap (λ (c : Bool). keep c (lineBy i (suc j) r d)) (pruned-hits book t sets scratch seen i j set (was .walk) inside R X e f r)))
+
+      step : pastEnd (rulesIn book) t i d j ≡ hitLines (bookOf book) X R i (j + 1) d ++ pastEnd (rulesIn book) t i d (suc j)
+      step = end-turn (rulesIn book) t i d j inside ∙ ap (λ (x : List Line). x ++ pastEnd (rulesIn book) t i d (suc j)) (sym lines-are)
+
+      pub listed-room : LinesFit (hitLines (bookOf book) X R i (j + 1) d) p l
+      listed-room = written-room (startLines (rulesIn book) t i d) l₀ at l p (pastEnd (rulesIn book) t i d j) (was .written) (hitLines (bookOf book) X R i (j + 1) d) (pastEnd (rulesIn book) t i d (suc j)) step
+
+      pub listed-turn : (p′ : ℕ) (l′ : List ℕ) → LinesPut (hitLines (bookOf book) X R i (j + 1) d) p l p′ l′ → Listed book t i d l₀ l′ at p′ (j + 1) X
+      listed-turn p′ l′ did = record {
+        walk = pruned-turn book t sets scratch seen i j set (was .walk) inside R X e f;
+        written = rw add-one (written-turn (startLines (rulesIn book) t i d) l₀ at l p (pastEnd (rulesIn book) t i d j) (was .written) (hitLines (bookOf book) X R i (j + 1) d) (pastEnd (rulesIn book) t i d (suc j)) step p′ l′ did);
+      }
+
+    done : pastEnd (rulesIn book) t i d j ≡ [] → LinesPut (startLines (rulesIn book) t i d) at l₀ p l
+    done = written-end (startLines (rulesIn book) t i d) l₀ at l p (pastEnd (rulesIn book) t i d j) (was .written)
+
+    pub listed-dead : set ≡ 0 → LinesPut (startLines (rulesIn book) t i d) at l₀ p l
+    listed-dead z = done (end-rest (rulesIn book) t i d j (pruned-dead book t sets scratch seen i j set (was .walk) z))
+
+    pub listed-end : length t ≤ j → LinesPut (startLines (rulesIn book) t i d) at l₀ p l
+    listed-end h = done (end-end (rulesIn book) t i d j h)

@@ -1,0 +1,95 @@
+-- `lines::count` meets its contract: n counts the starts before i. The measure is what is left of the tape. Assumes nothing.
+use Prim.Native.Nat.{_-_, _<_}
+use native.Mathlib.Omega.{arith}
+use borrow.Author.Needs.{needs}
+use lib.ListN.{length}
+use Rattle.book.specs.Reading.{bookOf}
+use Rattle.lines.proofs.Tallies.{Totalled, total-start, total-low, total-turn, total-end, account-most}
+use Rattle.stretches.proofs.Scans.{rights-of}
+use Rattle.lines.proofs.count.Statement.{statement}
+use Rattle.lines.proofs.count.Tie as tie
+
+abbrev Inv-loop : tie.InvT-loop
+Inv-loop book places masks rules tape rows sets scratch n₀ k₀ i₀ n k i =
+    Totalled book tape sets n k i
+
+abbrev μ-loop : tie.MeasureT-loop
+μ-loop book places masks rules tape rows sets scratch n₀ k₀ i₀ n k i =
+    length tape - i
+
+loop-holds : tie.Need-loop-holds Inv-loop μ-loop
+loop-holds c =
+    let s = c .before .before .before .before .before in
+    let a = s .args in
+    total-start (a .book .now) (a .tape .now) (a .rows .now) (a .sets .now) (a .scratch .now) (s .pre .1)
+
+mul-start-count : tie.Need-mul-start-count Inv-loop μ-loop
+mul-start-count c = search needs
+
+shared-slice-read-start-count : tie.Need-shared-slice-read-start-count Inv-loop μ-loop
+shared-slice-read-start-count c =
+    omega (arith, c .before .before .loop .inv .left .below, c .before .before .before .before .before .before .before .before .pre .1 .few, c .before .before .before .before .before .before .before .before .pre .1 .sets-room)
+
+start-count-requires : tie.Need-start-count-requires Inv-loop μ-loop
+start-count-requires c κs =
+    let s = c .before .before .before .before .before .before .before .before in
+    let a = s .args in
+    (s .pre .0, (rights-of (a .book .now) (a .tape .now) (a .rows .now) (a .sets .now) (a .scratch .now) (s .pre .1), (omega arith, s .pre .1 .tape-fits, c .before .before .loop .inv .left .is)))
+
+add-n : tie.Need-add-n Inv-loop μ-loop
+add-n c =
+    let s = c .before .before .before .before .before .before .before .before .before in
+    let a = s .args in
+    let l = c .before .before .before .loop in
+    let h : l .i < length (a .tape .now) = c .before .before .loop-test .taken in
+    let low = total-low (a .book .now) (a .tape .now) (a .rows .now) (a .sets .now) (a .scratch .now) (s .pre .1) (l .n) (l .k) (l .i) (l .inv) (c .start-count .result) h (c .start-count .ensures) in
+    omega (arith, low, account-most (bookOf (a .book .now)) (s .pre .0 .tests .sound) (a .tape .now) (s .pre .1 .tape-fits))
+
+shared-slice-read-left-step : tie.Need-shared-slice-read-left-step Inv-loop μ-loop
+shared-slice-read-left-step c = search needs
+
+left-step-requires : tie.Need-left-step-requires Inv-loop μ-loop
+left-step-requires c κs =
+    let l = c .before .before .before .before .loop in
+    let h : l .i < length (c .before .before .before .before .before .before .before .before .before .before .args .tape .now) = c .before .before .before .loop-test .taken in
+    (omega (arith, l .inv .left .below, c .before .before .before .before .before .before .before .before .before .before .pre .1 .few), c .before .before .before .before .before .before .before .before .before .before .pre .1 .symbols (l .i) h, c .before .before .before .before .before .before .before .before .before .before .pre .1 .rows-room)
+
+add-i : tie.Need-add-i Inv-loop μ-loop
+add-i c = search needs
+
+loop-less : tie.Need-loop-less Inv-loop μ-loop
+loop-less c = search needs
+
+loop-again : tie.Need-loop-again Inv-loop μ-loop
+loop-again c =
+    let s = c .before .before .before .before .before .before .before .before .before .before .before in
+    let a = s .args in
+    let l = c .before .before .before .before .before .loop in
+    let r = c .before .before .start-count in
+    let h : l .i < length (a .tape .now) = c .before .before .before .before .loop-test .taken in
+    total-turn (a .book .now) (a .tape .now) (a .rows .now) (a .sets .now) (a .scratch .now) (s .pre .1) (l .n) (l .k) (l .i) (l .inv) (r .result) (c .left-step .result) h (r .ensures) (c .left-step .ensures)
+
+returns : tie.Need-returns Inv-loop μ-loop
+returns c =
+    let s = c .before .before .before .before .before .before .before in
+    let a = s .args in
+    let l = c .before .loop in
+    total-end (a .book .now) (a .tape .now) (a .rows .now) (a .sets .now) (a .scratch .now) (s .pre .1) (l .n) (l .k) (l .i) (l .inv) (omega arith)
+
+pub count-spec : {M : Type 1} → statement M
+count-spec =
+    tie.close
+    (tie.spec
+    Inv-loop
+    μ-loop
+    loop-holds
+    mul-start-count
+    shared-slice-read-start-count
+    start-count-requires
+    add-n
+    shared-slice-read-left-step
+    left-step-requires
+    add-i
+    loop-less
+    loop-again
+    returns)

@@ -1,0 +1,28 @@
+-- `lines::lines::verdict_of` meets its contract: each return is a row of `verdictBy`. Assumes nothing.
+use native.Mathlib.Omega.{arith}
+use borrow.Author.Tests.{lt-ltb, le-ltb}
+use Rattle.lines.proofs.lines.verdict_of.Statement.{statement}
+use Rattle.lines.proofs.lines.verdict_of.Tie as tie
+
+returns : tie.Need-returns
+returns c =
+    let a = c .before .args in
+    rw (lt-ltb (a .start) (a .i) (omega arith))
+
+returns-2 : tie.Need-returns-2
+returns-2 c =
+    let a = c .before .before .args in
+    rw (le-ltb (a .start) (a .i) (omega arith), lt-ltb (a .j) (a .end) (omega arith))
+
+returns-3 : tie.Need-returns-3
+returns-3 c =
+    let a = c .before .before .before .args in
+    rw (le-ltb (a .start) (a .i) (omega arith), le-ltb (a .j) (a .end) (omega arith), lt-ltb (a .rule) (a .r) (omega arith))
+
+returns-4 : tie.Need-returns-4
+returns-4 c =
+    let a = c .before .before .before .args in
+    rw (le-ltb (a .start) (a .i) (omega arith), le-ltb (a .j) (a .end) (omega arith), le-ltb (a .rule) (a .r) (omega arith))
+
+pub verdict-of-spec : {M : Type 1} → statement M
+verdict-of-spec = tie.close (tie.spec returns returns-2 returns-3 returns-4)

@@ -1,0 +1,172 @@
+// ACCOUNT's passes over one tape: the candidates are counted before the first word is written, so that a refusal leaves the account as it was.
+use crate::lines::write_lines;
+use stretches::outline::ALL_ACCEPTS;
+use stretches::outline::MASKS;
+use stretches::outline::outline_of;
+use stretches::walk::focus_first;
+use stretches::walk::left_step;
+use stretches::walk::right_set;
+use stretches::walk::rule_hits;
+ghost use mathlib.Core.Path.{_≡_};
+ghost use Prim.Native.Nat.{_≤_};
+ghost use lib.ListN.{length};
+ghost use Rattle.book.specs.Reading.{bookOf};
+ghost use Rattle.book.specs.Language.{rulesIn};
+ghost use Rattle.sets.specs.Sets.{leftAt};
+ghost use Rattle.stretches.specs.Account.{account};
+ghost use Rattle.stretches.specs.Buffers.{longestTape};
+ghost use Rattle.lines.specs.Listing.{linesLeave, linesDef};
+ghost use Rattle.stretches.specs.Ready.{Tests, Outlined, Ready, Rights};
+ghost use Rattle.lines.specs.Lines.{hitCount, startCount};
+
+mod lines; // lines.rt: the lines of the account
+
+// The words of a line of an account: rule, start, end, verdict, deciding start.
+pub const LINE: usize = 5;
+
+// ACCOUNT's answer: the number of candidates.
+pub struct Accounted {
+    pub reply: u8,
+    pub place: usize,
+    pub candidates: usize,
+}
+
+// How many rules pass at an end. At most ends the set holds no focus accept.
+fn hit_count(book: &[u8], masks: &[u64; MASKS], rules: usize, set: u64, right: u64) -> usize
+    requires { ⌜ Tests (bookOf (now book)) rules (now masks) ⌝ }
+    ensures { λ n. ⌜ n ≡ hitCount (bookOf (now (book .entry))) set right ⌝ }
+{
+    if set & masks[ALL_ACCEPTS] == 0 {
+        return 0;
+    }
+    let mut n = 0;
+    let mut rule = 0;
+    while rule < rules {
+        let hit = rule_hits(book, masks, rules, set, right, rule);
+        rule += 1;
+        if hit {
+            n += 1;
+        }
+    }
+    n
+}
+
+// How many candidates start at a position.
+fn start_count(
+    book: &[u8],
+    places: &[u16; book::STATES],
+    masks: &[u64; MASKS],
+    rules: usize,
+    tape: &[u8],
+    sets: &[u64],
+    scratch: &[u8],
+    from: usize,
+    left: u64,
+) -> usize
+    requires { ⌜ Outlined (bookOf (now book)) rules (now places) (now masks) ⌝ }
+    requires { ⌜ Rights (now book) (now tape) (now sets) (now scratch) ⌝ }
+    requires { ⌜ (from ≤ length (now tape)) × (length (now tape) ≤ longestTape) × (left ≡ leftAt (bookOf (now book)) (now tape) from) ⌝ }
+    ensures { λ n. ⌜ n ≡ startCount (rulesIn (now (book .entry))) (now (tape .entry)) from ⌝ }
+{
+    let mut set = focus_first(book, masks, rules, left, right_set(sets, scratch, from));
+    let mut n = 0;
+    let mut j = from;
+    while j < tape.len() {
+        if set == 0 {
+            return n;
+        }
+        let right = right_set(sets, scratch, j + 1);
+        set = sets::stepping::focus_next(book, places, set, tape[j], right);
+        j += 1;
+        n += hit_count(book, masks, rules, set, right);
+    }
+    n
+}
+
+// How many candidates the tape has.
+fn count(
+    book: &[u8],
+    places: &[u16; book::STATES],
+    masks: &[u64; MASKS],
+    rules: usize,
+    tape: &[u8],
+    rows: &[u8],
+    sets: &[u64],
+    scratch: &[u8],
+) -> usize
+    requires { ⌜ Outlined (bookOf (now book)) rules (now places) (now masks) ⌝ }
+    requires { ⌜ Ready (now book) (now tape) (now rows) (now sets) (now scratch) ⌝ }
+    ensures { λ n. ⌜ n ≡ length (account (rulesIn (now (book .entry))) (now (tape .entry))) ⌝ }
+{
+    let mut n = 0;
+    let mut k = 0;
+    let mut i = 0;
+    while i < tape.len() {
+        n += start_count(book, places, masks, rules, tape, sets, scratch, i, sets[k]);
+        k = left_step(rows, k, tape[i]);
+        i += 1;
+    }
+    n
+}
+
+// Counts, then writes. Refused with 15 and nothing written where the account is too short. Both arrays are lent from one outline, hence at one
+// lifetime.
+fn count_and_write<'a>(
+    book: &[u8],
+    places: &'a [u16; book::STATES],
+    masks: &'a [u64; MASKS],
+    rules: usize,
+    tape: &[u8],
+    rows: &[u8],
+    sets: &[u64],
+    scratch: &[u8],
+    lines: &mut [u16],
+) -> Accounted
+    requires { ⌜ Outlined (bookOf (now book)) rules (now places) (now masks) ⌝ }
+    requires { ⌜ Ready (now book) (now tape) (now rows) (now sets) (now scratch) ⌝ }
+    ensures { λ r. ⌜ linesLeave r (now (lines .exit)) ≡ linesDef (rulesIn (now (book .entry))) (now (tape .entry)) (now (lines .entry)) ⌝ }
+{
+    let candidates = count(book, places, masks, rules, tape, rows, sets, scratch);
+    if lines.len() / LINE < candidates {
+        return Accounted {
+            reply: 15,
+            place: LINE * candidates,
+            candidates: 0,
+        };
+    }
+    write_lines(book, places, masks, rules, tape, rows, sets, scratch, lines);
+    Accounted {
+        reply: 0,
+        place: 0,
+        candidates,
+    }
+}
+
+// The account of one tape after a build and its backward pass. Public, and with a `requires`, as `output::finish` is: who accounts for many
+// tapes after one build need not check and build again for each.
+pub fn list(
+    book: &[u8],
+    tape: &[u8],
+    rows: &[u8],
+    sets: &[u64],
+    scratch: &[u8],
+    rules: usize,
+    lines: &mut [u16],
+) -> Accounted
+    requires { ⌜ Ready (now book) (now tape) (now rows) (now sets) (now scratch) ⌝ }
+    requires { ⌜ rules ≡ length (bookOf (now book) .words) ⌝ }
+    ensures { λ r. ⌜ linesLeave r (now (lines .exit)) ≡ linesDef (rulesIn (now (book .entry))) (now (tape .entry)) (now (lines .entry)) ⌝ }
+{
+    let outline = outline_of(book);
+    count_and_write(
+        book,
+        &outline.places,
+        &outline.masks,
+        rules,
+        tape,
+        rows,
+        sets,
+        scratch,
+        lines,
+    )
+}

@@ -1,0 +1,6 @@
+pub mod Marks
+pub mod Positions
+pub mod Limits
+pub mod Measured
+pub mod Forth
+pub mod Outcomes

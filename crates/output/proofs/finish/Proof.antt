@@ -1,0 +1,45 @@
+-- `output::finish` meets its contract: the outline of the book is lent to both passes. Assumes nothing.
+use Prim.Native.Nat.{ℕ}
+use mathlib.Core.Path.{sym, subst}
+use borrow.Author.Needs.{needs}
+use Rattle.book.specs.Reading.{bookOf}
+use Rattle.stretches.specs.Ready.{Outlined}
+use Rattle.output.proofs.finish.Statement.{statement}
+use Rattle.output.proofs.finish.Tie as tie
+
+outline-of-requires : tie.Need-outline-of-requires
+outline-of-requires c κs = search needs
+
+place-words-requires : tie.Need-place-words-requires
+place-words-requires c κs = search needs
+
+both-requires : tie.Need-both-requires
+both-requires c κs =
+    let a = c .before .before .before .before .before .before .before .before .before .before .before .before .before .before .before .before .args in
+    let o = c .before .before .before .before .before .before .before .before .outline-of in (
+      record {
+        outlined = subst (λ (n : ℕ). Outlined (bookOf (a .book .now)) n (o .result .places) (o .result .masks)) (sym (c .before .before .before .before .before .before .before .before .before .before .before .before .before .before .before .before .pre .1)) (o .ensures);
+        words-at = c .before .before .before .before .before .before .before .place-words .ensures;
+      },
+      c .before .before .before .before .before .before .before .before .before .before .before .before .before .before .before .before .pre .0,
+    )
+
+same-length : tie.Need-same-length
+same-length c = search needs
+
+same-length-2 : tie.Need-same-length-2
+same-length-2 c = search needs
+
+returns : tie.Need-returns
+returns c = search needs
+
+pub finish-spec : {M : Type 1} → statement M
+finish-spec =
+    tie.close
+    (tie.spec
+    outline-of-requires
+    place-words-requires
+    both-requires
+    same-length
+    same-length-2
+    returns)

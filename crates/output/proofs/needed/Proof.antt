@@ -1,0 +1,39 @@
+-- `output::needed` meets its contract: the longest possible output is at least as long as the output, and a measured one is the output's. Assumes nothing.
+use mathlib.Core.Path.{_∙_}
+use native.Mathlib.Omega.{arith}
+use borrow.Author.Needs.{needs}
+use Rattle.book.specs.Language.{rulesIn}
+use Rattle.output.proofs.Outcomes.{needed-none, needed-all}
+use Rattle.output.proofs.Limits.{output-most, most-fits}
+use Rattle.output.proofs.needed.Statement.{statement}
+use Rattle.output.proofs.needed.Tie as tie
+
+longest-word-requires : tie.Need-longest-word-requires
+longest-word-requires c κs = search needs
+
+mul-if1 : tie.Need-mul-if1
+mul-if1 c =
+    let a = c .before .before .before .before .before .before .args in
+    omega (arith, most-fits (a .book .now) (a .tape .now) (a .rows .now) (a .sets .now) (a .scratch .now) (c .before .before .before .before .before .before .pre .1) (c .longest-word .result) (c .longest-word .ensures))
+
+returns : tie.Need-returns
+returns c =
+    let a = c .before .before .before .before .before .before .before .args in
+    needed-none (rulesIn (a .book .now)) (a .tape .now) (a .room) (omega (arith, c .if1 .taken, output-most (a .book .now) (a .tape .now) (a .rows .now) (a .sets .now) (a .scratch .now) (c .before .before .before .before .before .before .before .pre .1) (c .before .longest-word .result) (c .before .longest-word .ensures)))
+
+measure-requires : tie.Need-measure-requires
+measure-requires c κs = search needs
+
+returns-2 : tie.Need-returns-2
+returns-2 c =
+    let a = c .before .before .before .before .before .before .before .before .before .args in
+    needed-none (rulesIn (a .book .now)) (a .tape .now) (a .room) (omega (arith, c .if2 .taken, c .before .measure .ensures .lens))
+
+returns-3 : tie.Need-returns-3
+returns-3 c =
+    let a = c .before .before .before .before .before .before .before .before .before .args in
+    c .before .measure .ensures .lens ∙ needed-all (rulesIn (a .book .now)) (a .tape .now) (a .room) (omega (arith, c .if2 .left, c .before .measure .ensures .lens))
+
+pub needed-spec : {M : Type 1} → statement M
+needed-spec =
+    tie.close (tie.spec longest-word-requires mul-if1 returns measure-requires returns-2 returns-3)

@@ -1,0 +1,57 @@
+-- The forward passes, one position after the other: what one position adds to the counts and does to the outputs, where the last stretch
+-- taken before it ends at `end`.
+use Prim.Native.Nat.{ℕ, _+_, _≤_}
+use mathlib.Core.Path.{_≡_}
+use mathlib.Core.List.{List, map}
+use mathlib.Core.Bool.{cond}
+use lib.Dec.{leb}
+use lib.ListN.{length, set}
+use Rattle.book.specs.Language.{Rules}
+use Rattle.stretches.specs.Candidates.{taken}
+use Rattle.stretches.specs.Output.{marks, rewriting, symbolsOf, originsOf}
+use Rattle.stretches.specs.Position.{marksAt, takesAt, endNext}
+use Rattle.stretches.specs.Buffers.{put, greatest}
+
+-- the counts after i, from those before it: the output's length and the stretches taken; and where the last stretch ends
+pub record Shared (b : Rules) (t : List ℕ) (i at end taken at′ end′ taken′ : ℕ) : Type 0 where
+  pub ends : end′ ≡ endNext b t i end
+  pub next : at′ ≡ at + length (marksAt b t i end)
+  pub many : taken′ ≡ taken + length (takesAt b t i end)
+
+-- no more symbols than these stand for one position: those of the longest word, or the one that is kept
+unfoldable pub mostMarks : Rules → ℕ
+mostMarks b = greatest 1 (map length (b .words))
+
+-- the two counts of the whole tape
+pub record Sized (b : Rules) (t : List ℕ) (length′ taken′ : ℕ) : Type 0 where
+  pub lens : length′ ≡ length (rewriting b t)
+  pub many : taken′ ≡ length (taken b t)
+
+-- the symbols that the output needs where it is longer than the room, else 0
+unfoldable pub neededPast : Rules → List ℕ → ℕ → ℕ
+neededPast b t room = cond (leb (length (rewriting b t)) room) 0 (length (rewriting b t))
+
+-- the word w of a stretch that begins at i, written at `at`
+pub record WordPut (w : List ℕ) (i at : ℕ) (out₀ org₀ : List ℕ) (at′ : ℕ) (out org : List ℕ) : Type 0 where
+  pub next : at′ ≡ at + length w
+  pub outs : out ≡ put out₀ at w
+  pub orgs : org ≡ put org₀ at (originsOf (marks w i))
+
+-- the symbol x at i, kept and written at `at`
+pub record KeptPut (x i at taken : ℕ) (out₀ org₀ : List ℕ) (at′ end′ taken′ : ℕ) (out org : List ℕ) : Type 0 where
+  pub ends : end′ ≡ i
+  pub next : at′ ≡ at + 1
+  pub many : taken′ ≡ taken
+  pub outs : out ≡ set out₀ at x
+  pub orgs : org ≡ set org₀ at i
+
+-- what is written at i fits both buffers from `at` on
+pub record Room (b : Rules) (t : List ℕ) (i at end : ℕ) (out org : List ℕ) : Type 0 where
+  pub outs : at + length (marksAt b t i end) ≤ length out
+  pub orgs : at + length (marksAt b t i end) ≤ length org
+
+-- what i does to both, and to the counts
+pub record MarksPut (b : Rules) (t : List ℕ) (i at end taken : ℕ) (out₀ org₀ : List ℕ) (at′ end′ taken′ : ℕ) (out org : List ℕ) : Type 0 where
+  pub share : Shared b t i at end taken at′ end′ taken′
+  pub outs : out ≡ put out₀ at (symbolsOf (marksAt b t i end))
+  pub orgs : org ≡ put org₀ at (originsOf (marksAt b t i end))

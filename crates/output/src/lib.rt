@@ -1,0 +1,163 @@
+// REWRITE's forward passes over one tape.
+use crate::output::forward;
+use crate::output::longest_word;
+use crate::output::measure;
+use stretches::outline::MASKS;
+use stretches::outline::outline_of;
+use stretches::outline::place_words;
+ghost use mathlib.Core.Path.{_≡_};
+ghost use Prim.Native.Nat.{min};
+ghost use lib.ListN.{length};
+ghost use Rattle.book.specs.Reading.{bookOf};
+ghost use Rattle.book.specs.Language.{rulesIn};
+ghost use Rattle.output.specs.Tape.{tapeLeaves, tapeDef};
+ghost use Rattle.stretches.specs.Ready.{Lent, Ready};
+ghost use Rattle.output.specs.Passes.{neededPast};
+
+mod output; // output.rt: measuring and writing the output
+
+// REWRITE's answer: the output's length, and the number of stretches taken.
+pub struct Rewritten {
+    pub reply: u8,
+    pub place: usize,
+    pub length: usize,
+    pub taken: usize,
+}
+
+// Refused with 15 and nothing written where an output buffer is too short.
+fn no_room(length: usize) -> Rewritten
+    ensures { λ r. ⌜ r ≡ record { reply = 15; place = length; length = 0; taken = 0 } ⌝ }
+{
+    Rewritten {
+        reply: 15,
+        place: length,
+        length: 0,
+        taken: 0,
+    }
+}
+
+// The room for an output is that of the shorter of its two buffers.
+fn room_of(out: usize, origins: usize) -> usize
+    ensures { λ r. ⌜ r ≡ min out origins ⌝ }
+{
+    if origins < out {
+        return origins;
+    }
+    out
+}
+
+// The symbols that the output needs where it is longer than the room, else 0. It is measured only where the longest possible output is longer.
+fn needed(
+    book: &[u8],
+    places: &[u16; book::STATES],
+    masks: &[u64; MASKS],
+    words: &[u16; book::RULES],
+    rules: usize,
+    tape: &[u8],
+    rows: &[u8],
+    sets: &[u64],
+    scratch: &[u8],
+    room: usize,
+) -> usize
+    requires { ⌜ Lent (now book) rules (now places) (now masks) (now words) ⌝ }
+    requires { ⌜ Ready (now book) (now tape) (now rows) (now sets) (now scratch) ⌝ }
+    ensures { λ r. ⌜ r ≡ neededPast (rulesIn (now (book .entry))) (now (tape .entry)) room ⌝ }
+{
+    if tape.len() * longest_word(book, words, rules) <= room {
+        return 0;
+    }
+    let size = measure(book, places, masks, words, rules, tape, rows, sets, scratch);
+    let length = size.length;
+    if length <= room {
+        return 0;
+    }
+    length
+}
+
+// Writes where there is room.
+fn both<'a>(
+    book: &[u8],
+    places: &'a [u16; book::STATES],
+    masks: &'a [u64; MASKS],
+    words: &[u16; book::RULES],
+    rules: usize,
+    tape: &[u8],
+    rows: &[u8],
+    sets: &[u64],
+    scratch: &[u8],
+    out: &mut [u8],
+    origins: &mut [u16],
+) -> Rewritten
+    requires { ⌜ Lent (now book) rules (now places) (now masks) (now words) ⌝ }
+    requires { ⌜ Ready (now book) (now tape) (now rows) (now sets) (now scratch) ⌝ }
+    ensures { λ r. ⌜ tapeLeaves r (now (out .exit)) (now (origins .exit)) ≡ tapeDef (rulesIn (now (book .entry))) (now (tape .entry)) (now (out .entry)) (now (origins .entry)) ⌝ }
+{
+    let room = room_of(out.len(), origins.len());
+    let symbols = needed(
+        book,
+        places,
+        masks,
+        words,
+        rules,
+        tape,
+        rows,
+        sets,
+        scratch,
+        room,
+    );
+    if symbols != 0 {
+        return no_room(symbols);
+    }
+    let size = forward(
+        book,
+        places,
+        masks,
+        words,
+        rules,
+        tape,
+        rows,
+        sets,
+        scratch,
+        out,
+        origins,
+    );
+    Rewritten {
+        reply: 0,
+        place: 0,
+        length: size.length,
+        taken: size.taken,
+    }
+}
+
+// One tape after a build and its backward pass. Public, and with a `requires`: who rewrites many tapes after one build calls it once a tape,
+// where REWRITE would check and build again for each.
+pub fn finish(
+    book: &[u8],
+    tape: &[u8],
+    rows: &[u8],
+    sets: &[u64],
+    scratch: &[u8],
+    rules: usize,
+    out: &mut [u8],
+    origins: &mut [u16],
+) -> Rewritten
+    requires { ⌜ Ready (now book) (now tape) (now rows) (now sets) (now scratch) ⌝ }
+    requires { ⌜ rules ≡ length (bookOf (now book) .words) ⌝ }
+    ensures { λ r. ⌜ tapeLeaves r (now (out .exit)) (now (origins .exit)) ≡ tapeDef (rulesIn (now (book .entry))) (now (tape .entry)) (now (out .entry)) (now (origins .entry)) ⌝ }
+{
+    let outline = outline_of(book);
+    let words = place_words(book);
+    both(
+        book,
+        &outline.places,
+        &outline.masks,
+        &words.places,
+        rules,
+        tape,
+        rows,
+        sets,
+        scratch,
+        out,
+        origins,
+    )
+}

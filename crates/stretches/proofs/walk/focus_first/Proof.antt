@@ -1,0 +1,67 @@
+-- `walk::focus_first` meets its contract: what the rules so far open is gathered, and the rules that there are not would open nothing. Assumes nothing.
+use Prim.Native.Nat.{_-_, _≤_}
+use mathlib.Core.Path.{_≡_}
+use native.Mathlib.Omega.{arith}
+use borrow.Author.Needs.{needs}
+use lib.ListN.{drop}
+use Rattle.book.specs.Reading.{bookOf}
+use Rattle.sets.specs.Stepping.{gather}
+use Rattle.stretches.proofs.Meets.{none-first, open-start, open-turn, open-end}
+use Rattle.stretches.proofs.walk.focus_first.Statement.{statement}
+use Rattle.stretches.proofs.walk.focus_first.Tie as tie
+
+abbrev Inv-loop : tie.InvT-loop
+Inv-loop book masks rules left right out₀ rule₀ out rule = (rule ≤ rules) × (out ≡ gather rule left masks (drop 16 masks))
+
+abbrev μ-loop : tie.MeasureT-loop
+μ-loop book masks rules left right out₀ rule₀ out rule = rules - rule
+
+element-copy-out-if1 : tie.Need-element-copy-out-if1 Inv-loop μ-loop
+element-copy-out-if1 c = search needs
+
+returns : tie.Need-returns Inv-loop μ-loop
+returns c =
+    let a = c .before .before .before .args in
+    none-first (bookOf (a .book .now)) (a .rules) (a .masks .now) (c .before .before .before .pre) (a .left) (a .right) (c .if1 .taken)
+
+loop-holds : tie.Need-loop-holds Inv-loop μ-loop
+loop-holds c =
+    let a = c .before .before .before .args in
+    open-start (bookOf (a .book .now)) (a .rules) (a .masks .now) (c .before .before .before .pre) (a .left)
+
+opened-requires : tie.Need-opened-requires Inv-loop μ-loop
+opened-requires c κs =
+    omega (arith, c .before .before .before .before .before .pre .many, c .before .before .before .before .before .pre .sound .rules)
+
+add-rule : tie.Need-add-rule Inv-loop μ-loop
+add-rule c = search needs
+
+loop-less : tie.Need-loop-less Inv-loop μ-loop
+loop-less c = search needs
+
+loop-again : tie.Need-loop-again Inv-loop μ-loop
+loop-again c =
+    let a = c .before .before .before .before .before .before .args in
+    let l = c .before .before .loop in
+    open-turn (bookOf (a .book .now)) (a .rules) (a .masks .now) (c .before .before .before .before .before .before .pre) (a .left) (l .rule) (l .out) (c .opened .result) (l .inv) (c .before .loop-test .taken) (c .opened .ensures)
+
+returns-2 : tie.Need-returns-2 Inv-loop μ-loop
+returns-2 c =
+    let a = c .before .before .before .before .before .args in
+    let l = c .before .loop in
+    open-end (bookOf (a .book .now)) (a .rules) (a .masks .now) (c .before .before .before .before .before .pre) (a .left) (a .right) (l .rule) (l .out) (l .inv) (omega arith)
+
+pub focus-first-spec : {M : Type 1} → statement M
+focus-first-spec =
+    tie.close
+    (tie.spec
+    Inv-loop
+    μ-loop
+    element-copy-out-if1
+    returns
+    loop-holds
+    opened-requires
+    add-rule
+    loop-less
+    loop-again
+    returns-2)

@@ -1,0 +1,31 @@
+-- `walk::left_step` meets its contract: the row of a number below 256 and a symbol below 16 stands in the first half of the rows. Assumes nothing.
+use Prim.Native.Nat.{ℕ, _+_, _*_}
+use mathlib.Core.Path.{_≡_, ap}
+use native.Mathlib.Omega.{arith}
+use borrow.Author.Needs.{needs}
+use lib.ListN.{getD}
+use Rattle.stretches.proofs.walk.left_step.Statement.{statement}
+use Rattle.stretches.proofs.walk.left_step.Tie as tie
+
+mul-result : tie.Need-mul-result
+mul-result c = search needs
+
+add-result : tie.Need-add-result
+add-result c = search needs
+
+shared-slice-read-result : tie.Need-shared-slice-read-result
+shared-slice-read-result c = search needs
+
+cast-result : tie.Need-cast-result
+cast-result c =
+    omega (arith, c .shared-slice-known .given (c .before .args .symbol + 16 * c .before .args .k))
+
+returns : tie.Need-returns
+returns c =
+    let a = c .before .args in
+    let e : a .symbol + 16 * a .k ≡ 16 * a .k + a .symbol = omega arith in
+    ap (λ (n : ℕ). getD (a .rows .now) n 0) e
+
+pub left-step-spec : {M : Type 1} → statement M
+left-step-spec =
+    tie.close (tie.spec mul-result add-result shared-slice-read-result cast-result returns)

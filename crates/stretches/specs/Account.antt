@@ -1,0 +1,54 @@
+-- Document 01, "The account and SHOW": "Five 16-bit words a candidate: rule, start, end, verdict, deciding start."
+use Prim.Native.Nat.{ℕ, zero, suc, _-_}
+use mathlib.Core.List.{List, [], _∷_, _++_}
+use mathlib.Core.Bool.{cond}
+use mathlib.Core.Path.{_≡_, refl}
+use lib.Dec.{ltb}
+use lib.ListN.{length}
+use Rattle.book.specs.Language.{Rules}
+use Rattle.stretches.specs.Candidates.{Stretch, candidate, ruleOf, overTape, keep}
+
+pub record Line : Type 0 where
+  pub rule : ℕ
+  pub start : ℕ
+  pub end : ℕ
+  pub verdict : ℕ
+  pub deciding : ℕ
+
+-- "Verdicts: 0 taken; 1 shorter than the taken one at the same start; 2 same stretch, lower rule taken; 3 start strictly inside a taken
+-- stretch", of the candidate from i to j of the rule r, where d stands over i
+abbrev pub verdictOf : Rules → List ℕ → ℕ → ℕ → ℕ → Stretch → ℕ
+verdictOf b t i j r d = cond (ltb (d .start) i) 3 (cond (ltb j (d .end)) 1 (cond (ltb (ruleOf b t (d .start) (d .end)) r) 2 0))
+
+-- "The deciding start is that of the taken stretch, its own for 0"
+abbrev pub lineFor : Rules → List ℕ → ℕ → ℕ → ℕ → Stretch → Line
+lineFor b t i j r d = record { rule = r; start = i; end = j; verdict = verdictOf b t i j r d; deciding = d .start }
+
+-- what f says of each number from a on, n of them
+abbrev pub each {ℓ} : {A : Type ℓ} → (ℕ → List A) → ℕ → ℕ → List A
+each f a zero = []
+each f a (suc n) = f a ++ each f (suc a) n
+
+-- the candidates that start at i: the ends from i to n, and for each end the rules
+abbrev pub linesAt : Rules → List ℕ → ℕ → List ℕ → Stretch → List Line
+linesAt b t i x d = each (λ (j : ℕ). each (λ (r : ℕ). keep (candidate b t i j r) (lineFor b t i j r d)) 0 (length (b .words))) i (suc (length t) - i)
+
+-- "Order: start, end, rule"
+unfoldable pub account : Rules → List ℕ → List Line
+account b t = overTape (linesAt b t) b t
+
+-- the words of a line
+abbrev pub lineWords : Line → List ℕ
+lineWords l = l .rule ∷ l .start ∷ l .end ∷ l .verdict ∷ l .deciding ∷ []
+
+-- how many they are
+abbrev pub lineLength : ℕ
+lineLength = 5
+
+pub line-length : (l : Line) → length (lineWords l) ≡ lineLength
+line-length l = refl
+
+-- the words of the account, one line after the other
+unfoldable pub wordsIn : List Line → List ℕ
+wordsIn [] = []
+wordsIn (l ∷ ls) = lineWords l ++ wordsIn ls

@@ -1,0 +1,11 @@
+pub mod Candidates
+pub mod Output
+pub mod Account
+pub mod Paper
+pub mod Sentences
+pub mod Books
+pub mod Table
+pub mod Insertions
+pub mod Buffers
+pub mod Ready
+pub mod Position

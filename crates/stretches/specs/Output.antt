@@ -1,0 +1,52 @@
+-- Document 01: "The output replaces each taken stretch by its rule's word and keeps the rest. Each output symbol has a 16-bit origin: a kept
+-- symbol its own position, every symbol of a replacement the start of the stretch."
+use Prim.Native.Nat.{ℕ}
+use mathlib.Core.List.{List, [], _∷_, _++_}
+use mathlib.Core.Bool.{cond}
+use lib.Dec.{ltb}
+use lib.ListN.{getD}
+use Rattle.book.specs.Language.{Rules}
+use Rattle.stretches.specs.Candidates.{Stretch, ruleOf, overTape}
+
+-- an output symbol with its origin
+pub record Mark : Type 0 where
+  pub symbol : ℕ
+  pub origin : ℕ
+
+-- symbols with one origin
+abbrev pub marks : List ℕ → ℕ → List Mark
+marks [] o = []
+marks (x ∷ xs) o = record { symbol = x; origin = o } ∷ marks xs o
+
+-- "a kept symbol its own position"
+abbrev pub keptMarks : List ℕ → ℕ → List Mark
+keptMarks x i = marks x i
+
+-- "every symbol of a replacement the start of the stretch", here from i to j
+abbrev pub wordMarks : List ℕ → ℕ → ℕ → List Mark
+wordMarks w i j = marks w i
+
+-- "its rule's word"
+abbrev pub ruleWord : Rules → ℕ → List ℕ
+ruleWord b r = getD (b .words) r []
+
+-- the word that stands for the stretch from i to j
+abbrev pub written : Rules → List ℕ → ℕ → ℕ → List Mark
+written b t i j = wordMarks (ruleWord b (ruleOf b t i j)) i j
+
+-- what is written at i: nothing strictly inside a stretch; else the word of a stretch that is taken here, then the symbol where the stretch
+-- does not cover it
+abbrev pub writtenAt : Rules → List ℕ → ℕ → List ℕ → Stretch → List Mark
+writtenAt b t i x d = cond (ltb (d .start) i) [] (cond (d .taken) (written b t (d .start) (d .end)) [] ++ cond (ltb i (d .end)) [] (keptMarks x i))
+
+unfoldable pub rewriting : Rules → List ℕ → List Mark
+rewriting b t = overTape (writtenAt b t) b t
+
+-- the output, and its origins
+abbrev pub symbolsOf : List Mark → List ℕ
+symbolsOf [] = []
+symbolsOf (m ∷ ms) = m .symbol ∷ symbolsOf ms
+
+abbrev pub originsOf : List Mark → List ℕ
+originsOf [] = []
+originsOf (m ∷ ms) = m .origin ∷ originsOf ms

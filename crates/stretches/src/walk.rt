@@ -1,0 +1,199 @@
+// The walk from one position: the focus states of the stretches that begin there, pruned by the right set at every step, so that it ends
+// right after the longest candidate. One rule's focus is never carried on by another rule's left context.
+use crate::outline::ALL_ACCEPTS;
+use crate::outline::ALL_STARTS;
+use crate::outline::FOCUS_ACCEPTS;
+use crate::outline::FOCUS_STARTS;
+use crate::outline::LEFT_ACCEPTS;
+use crate::outline::MASKS;
+use crate::outline::RIGHT_STARTS;
+ghost use mathlib.Core.Path.{_≡_};
+ghost use Prim.Native.Nat.{_+_, _*_, _≤_, _<_};
+ghost use lib.ListN.{length, getD};
+ghost use Rattle.book.specs.Format.{symbolCount, mostRules};
+ghost use Rattle.book.specs.Reading.{checkDef, bookOf};
+ghost use Rattle.book.specs.Language.{rulesIn};
+ghost use Rattle.book.specs.Outline.{Placed};
+ghost use Rattle.sets.specs.Sets.{leftAt, focusFirst};
+ghost use Rattle.sets.specs.Stepping.{stepFold, joins};
+ghost use Rattle.sets.specs.Numbering.{mostSets};
+ghost use Rattle.sets.specs.Workspace.{rowBytes, setWords};
+ghost use Rattle.stretches.specs.Ready.{leftAccepts, focusStarts, Tests, Outlined, Rights, slotCount, Remembers};
+ghost use Rattle.stretches.specs.Position.{hits, hitRule, Takes};
+
+// The number that is no rule's.
+pub const NO_RULE: usize = book::RULES;
+
+// The right set at position j.
+pub fn right_set(sets: &[u64], scratch: &[u8], j: usize) -> u64
+    requires { ⌜ (j < length (now scratch)) × (setWords ≤ length (now sets)) ⌝ }
+    ensures { λ r. ⌜ r ≡ getD (now (sets .entry)) (mostSets + getD (now (scratch .entry)) j 0) 0 ⌝ }
+{
+    sets[sets::MOST_SETS + scratch[j] as usize]
+}
+
+// The number of the left set one symbol on.
+pub fn left_step(rows: &[u8], k: usize, symbol: u8) -> usize
+    requires { ⌜ (k < mostSets) × (symbol < symbolCount) × (rowBytes ≤ length (now rows)) ⌝ }
+    ensures { λ r. ⌜ r ≡ getD (now (rows .entry)) (symbolCount * k + symbol) 0 ⌝ }
+{
+    rows[symbol as usize + sets::ROW * k] as usize
+}
+
+// The focus starts of a rule whose left context holds.
+fn opened(masks: &[u64; MASKS], left: u64, rule: usize) -> u64
+    requires { ⌜ rule < mostRules ⌝ }
+    ensures { λ r. ⌜ r ≡ joins left (getD (now (masks .entry)) (leftAccepts rule) 0) (getD (now (masks .entry)) (focusStarts rule) 0) ⌝ }
+{
+    if left & masks[LEFT_ACCEPTS + rule] == 0 {
+        return 0;
+    }
+    masks[FOCUS_STARTS + rule]
+}
+
+// The focus states that may start between the left set and the right set. At most positions the right set holds no focus start.
+pub fn focus_first(book: &[u8], masks: &[u64; MASKS], rules: usize, left: u64, right: u64) -> u64
+    requires { ⌜ Tests (bookOf (now book)) rules (now masks) ⌝ }
+    ensures { λ r. ⌜ r ≡ focusFirst (bookOf (now (book .entry))) left right ⌝ }
+{
+    if right & masks[ALL_STARTS] == 0 {
+        return 0;
+    }
+    let mut out: u64 = 0;
+    let mut rule = 0;
+    while rule < rules {
+        out = out | opened(masks, left, rule);
+        rule += 1;
+    }
+    out & right
+}
+
+// Whether a rule passes at an end.
+pub fn rule_hits(
+    book: &[u8],
+    masks: &[u64; MASKS],
+    rules: usize,
+    set: u64,
+    right: u64,
+    rule: usize,
+) -> bool
+    requires { ⌜ Tests (bookOf (now book)) rules (now masks) ⌝ }
+    requires { ⌜ rule < rules ⌝ }
+    ensures { λ r. ⌜ r ≡ hits (bookOf (now (book .entry))) set right rule ⌝ }
+{
+    if set & masks[FOCUS_ACCEPTS + rule] == 0 {
+        return false;
+    }
+    if right & masks[RIGHT_STARTS + rule] == 0 {
+        return false;
+    }
+    true
+}
+
+// The lowest rule that passes at an end. At most ends the set holds no focus accept.
+pub fn rule_hit(book: &[u8], masks: &[u64; MASKS], rules: usize, set: u64, right: u64) -> usize
+    requires { ⌜ Tests (bookOf (now book)) rules (now masks) ⌝ }
+    ensures { λ r. ⌜ r ≡ hitRule (bookOf (now (book .entry))) set right ⌝ }
+{
+    if set & masks[ALL_ACCEPTS] == 0 {
+        return NO_RULE;
+    }
+    let mut rule = 0;
+    while rule < rules {
+        if rule_hits(book, masks, rules, set, right, rule) {
+            return rule;
+        }
+        rule += 1;
+    }
+    NO_RULE
+}
+
+// How many steps of the focus a pass over a tape remembers: on real tapes the same few come again and again.
+pub const SLOTS: usize = 16;
+
+// The words of the remembered steps: the set before step k stands at k, and the set after it at AFTER + k. Its symbol stands beside them, in an
+// array of bytes. At first they are steps of the empty set.
+pub const STEPS: usize = SLOTS + SLOTS;
+
+const AFTER: usize = SLOTS;
+
+// Where the step of a set on a symbol is looked for, and put: sets with another lowest state, or on another symbol, seldom share a place.
+fn slot_of(set: u64, symbol: u8) -> usize
+    ensures { λ r. ⌜ r < slotCount ⌝ }
+{
+    (2 * u64::trailing_zeros(set) as usize + symbol as usize) % SLOTS
+}
+
+// The step of a set, remembered or computed.
+fn remembered(
+    book: &[u8],
+    places: &[u16; book::STATES],
+    steps: &mut [u64; STEPS],
+    symbols: &mut [u8; SLOTS],
+    set: u64,
+    symbol: u8,
+) -> u64
+    requires { ⌜ checkDef (now book) .reply ≡ 0 ⌝ }
+    requires { ⌜ Placed (bookOf (now book) .states) (now places) ⌝ }
+    requires { ⌜ Remembers (bookOf (now book)) (now steps) (now symbols) ⌝ }
+    ensures { λ r. ⌜ r ≡ stepFold (bookOf (now (book .entry)) .arcs) set symbol ⌝ }
+    ensures { λ _. ⌜ Remembers (bookOf (now (book .entry))) (now (steps .exit)) (now (symbols .exit)) ⌝ }
+{
+    let slot = slot_of(set, symbol);
+    if steps[slot] == set {
+        if symbols[slot] == symbol {
+            return steps[AFTER + slot];
+        }
+    }
+    let after = sets::stepping::focus_step(book, places, set, symbol);
+    steps[slot] = set;
+    symbols[slot] = symbol;
+    steps[AFTER + slot] = after;
+    after
+}
+
+// What is taken at a free position: where the longest candidate ends, and its lowest rule; the position itself and 0 where there is none.
+pub struct Taken {
+    pub end: usize,
+    pub rule: usize,
+}
+
+pub fn taken_at(
+    book: &[u8],
+    places: &[u16; book::STATES],
+    masks: &[u64; MASKS],
+    rules: usize,
+    tape: &[u8],
+    sets: &[u64],
+    scratch: &[u8],
+    from: usize,
+    left: u64,
+    steps: &mut [u64; STEPS],
+    symbols: &mut [u8; SLOTS],
+) -> Taken
+    requires { ⌜ Outlined (bookOf (now book)) rules (now places) (now masks) ⌝ }
+    requires { ⌜ Rights (now book) (now tape) (now sets) (now scratch) ⌝ }
+    requires { ⌜ (from ≤ length (now tape)) × (left ≡ leftAt (bookOf (now book)) (now tape) from) ⌝ }
+    requires { ⌜ Remembers (bookOf (now book)) (now steps) (now symbols) ⌝ }
+    ensures { λ r. ⌜ Takes (rulesIn (now (book .entry))) (now (tape .entry)) from (r .end) (r .rule) ⌝ }
+    ensures { λ _. ⌜ Remembers (bookOf (now (book .entry))) (now (steps .exit)) (now (symbols .exit)) ⌝ }
+{
+    let mut set = focus_first(book, masks, rules, left, right_set(sets, scratch, from));
+    let mut end = from;
+    let mut rule = 0;
+    let mut j = from;
+    while j < tape.len() {
+        if set == 0 {
+            return Taken { end, rule };
+        }
+        let right = right_set(sets, scratch, j + 1);
+        set = remembered(book, places, steps, symbols, set, tape[j]) & right;
+        j += 1;
+        let hit = rule_hit(book, masks, rules, set, right);
+        if hit != NO_RULE {
+            end = j;
+            rule = hit;
+        }
+    }
+    Taken { end, rule }
+}
