@@ -33,6 +33,9 @@
  * book 9, 10, 11, 12, 13, 14, 15. Counts are 0 on every refusal. 1 to 12 change no buffer. 13 and 14 leave the workspace all 0 and
  * nothing else changed. 15 leaves workspace and scratch as acceptance does, and the output, the origins and the account unchanged.
  * What stood in workspace and scratch before never matters.
+ *
+ * Stack of a call, with its arguments and return address, measured on the worst inputs known (bench/run stack): check 312 bytes,
+ * build 1,064, rewrite 2,952, account 2,920, show 8. No call recurses.
  */
 #ifndef QAFRENDI_H
 #define QAFRENDI_H

@@ -10,7 +10,8 @@ use borrow.Author.Tests.{not-false}
 use native.Mathlib.Numerals.{add-one}
 use native.Mathlib.Omega.{arith}
 use Rattle.book.specs.declared.Scan.{Scan}
-use Rattle.book.specs.Format.{byte, recordSize, given, arcReply, byKind, kindReply, recordReply, ruleMore, stateMore, arcMore, recordMore}
+use Rattle.book.specs.Format.{byte, recordSize, given, arcReply, byKind, kindReply, recordReply}
+use Rattle.book.specs.Scanning.{ruleMore, stateMore, arcMore, recordMore}
 use Rattle.book.specs.Reading.{State, Arc, Book, partOf, scanOf, wordAt, stateAt, arcAt, withRule, withState, withArc, withRecord}
 use Rattle.book.proofs.Laws.{given-below}
 use Rattle.book.proofs.Passed.{test-same, kind-rel, rule-room, state-room, arc-room}

@@ -5,7 +5,7 @@
 use Prim.Native.Nat.{ℕ, zero, suc, _+_}
 use mathlib.Core.List.{List}
 use mathlib.Core.Bool.{Bool, true, false, not, _&&_, cond}
-use lib.ListN.{length, getD, set}
+use lib.ListN.{length, getD}
 use lib.Dec.{ltb, leb, eqb}
 use Rattle.book.specs.declared.Scan.{Scan}
 
@@ -100,16 +100,3 @@ recordReply s at g =
     (cond (eqb (recordSize (byte s at)) 0) 2
     (cond (ltb (length s) (at + recordSize (byte s at))) 1
     (kindReply s at g)))
-
--- what is given with a record more
-abbrev pub ruleMore : Scan → Scan
-ruleMore g = record { rules = g .rules + 1; states = g .states; arcs = g .arcs; first = g .states; parts = g .parts }
-
-abbrev pub stateMore : ℕ → Scan → Scan
-stateMore part g = record { rules = g .rules; states = g .states + 1; arcs = g .arcs; first = g .first; parts = set (g .parts) (g .states) part }
-
-abbrev pub arcMore : Scan → Scan
-arcMore g = record { rules = g .rules; states = g .states; arcs = g .arcs + 1; first = g .first; parts = g .parts }
-
-unfoldable pub recordMore : List ℕ → ℕ → Scan → Scan
-recordMore s at g = byKind (byte s at) (ruleMore g) (stateMore (byte s (at + 1)) g) (arcMore g) g

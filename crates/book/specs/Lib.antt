@@ -2,6 +2,7 @@ pub mod Format
 pub mod Reading
 pub mod Language
 pub mod StateSets
+pub mod Scanning
 pub mod Outline
 pub mod Sound
 pub mod House

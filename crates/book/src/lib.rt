@@ -2,7 +2,8 @@
 ghost use mathlib.Core.Path.{_≡_};
 ghost use Prim.Native.Nat.{_+_, _≤_, _<_};
 ghost use lib.ListN.{length};
-ghost use Rattle.book.specs.Format.{longestWord, mostStates, byte, recordSize, symbolFits, symbolsFit, given, ruleReply, stateReply, arcReply, kindReply, recordReply, recordMore};
+ghost use Rattle.book.specs.Format.{longestWord, mostStates, byte, recordSize, symbolFits, symbolsFit, given, ruleReply, stateReply, arcReply, kindReply, recordReply};
+ghost use Rattle.book.specs.Scanning.{recordMore};
 ghost use Rattle.book.specs.Reading.{refused, answer, checkDef};
 
 pub mod outline; // outline.rt: where an accepted book's states stand, and which of them start or accept

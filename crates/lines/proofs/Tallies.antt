@@ -12,7 +12,8 @@ use Rattle.book.specs.Format.{symbolCount, mostRules}
 use Rattle.book.specs.Reading.{Book, bookOf}
 use Rattle.book.specs.Language.{Rules, rules, rulesIn}
 use Rattle.book.specs.Sound.{Sound}
-use Rattle.sets.specs.Sets.{leftAt, focusFirst, focusNext}
+use Rattle.sets.specs.Sets.{leftAt}
+use Rattle.sets.specs.Focus.{focusFirst, focusNext}
 use Rattle.sets.specs.Numbering.{mostSets}
 use Rattle.stretches.specs.Candidates.{candidate}
 use Rattle.stretches.specs.Account.{account}

@@ -11,7 +11,8 @@ use lib.ListN.{length, getD, take, set, length-append}
 use lib.Seq.{sets-eq}
 use Rattle.book.specs.Reading.{Book, bookOf}
 use Rattle.book.specs.Language.{Rules, rulesIn}
-use Rattle.sets.specs.Sets.{leftAt, focusFirst, focusNext}
+use Rattle.sets.specs.Sets.{leftAt}
+use Rattle.sets.specs.Focus.{focusFirst, focusNext}
 use Rattle.sets.specs.Numbering.{mostSets}
 use Rattle.stretches.specs.Candidates.{candidate, keep}
 use Rattle.stretches.specs.Account.{Line, each, lineWords, lineLength, wordsIn}

@@ -11,7 +11,7 @@ use Rattle.stretches.specs.Candidates.{Stretch, candidate, longest, ruleOf, kee
 use Rattle.stretches.specs.Account.{Line, each, wordsIn}
 use Rattle.stretches.specs.Sentences.{sum}
 use Rattle.stretches.specs.Position.{hits}
-use Rattle.stretches.specs.Buffers.{put}
+use Rattle.stretches.specs.Lists.{put}
 use Rattle.lines.specs.declared.lines.Deciding.{Deciding}
 
 -- how many rules pass at an end

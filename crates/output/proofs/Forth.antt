@@ -8,7 +8,8 @@ use lib.ListN.{length, getD, length-append}
 use Rattle.book.specs.Format.{symbolCount}
 use Rattle.book.specs.Language.{rulesIn}
 use Rattle.stretches.specs.Output.{Mark, writtenAt, rewriting, symbolsOf, originsOf}
-use Rattle.stretches.specs.Buffers.{onto, put}
+use Rattle.stretches.specs.Buffers.{onto}
+use Rattle.stretches.specs.Lists.{put}
 use Rattle.stretches.specs.Ready.{Ready}
 use Rattle.stretches.specs.Position.{marksAt}
 use Rattle.output.specs.Passes.{Room, MarksPut}

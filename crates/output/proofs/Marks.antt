@@ -10,7 +10,7 @@ use Rattle.book.specs.Format.{byte}
 use Rattle.book.specs.Reading.{wordAt}
 use Rattle.stretches.specs.Output.{Mark, marks, symbolsOf, originsOf}
 use Rattle.stretches.specs.Ready.{WordRoom}
-use Rattle.stretches.specs.Buffers.{put}
+use Rattle.stretches.specs.Lists.{put}
 use Rattle.output.specs.Passes.{WordPut}
 use Rattle.stretches.proofs.Counts.{origins-length}
 use Rattle.stretches.proofs.Lengths.{marks-length}

@@ -15,7 +15,7 @@ use Rattle.stretches.specs.Output.{wordMarks, ruleWord, symbolsOf, originsOf}
 use Rattle.stretches.specs.Ready.{allStarts, Tests, WordAt, WordsAt, Rights}
 use Rattle.stretches.specs.Position.{Takes, marksAt}
 use Rattle.output.specs.Passes.{Shared, WordPut, KeptPut, Room, MarksPut}
-use Rattle.stretches.specs.Buffers.{put}
+use Rattle.stretches.specs.Lists.{put}
 use Rattle.stretches.proofs.Walks.{longest-low, some-far}
 use Rattle.stretches.proofs.Stretches.{rule-first}
 use Rattle.stretches.proofs.Lengths.{marks-length}

@@ -10,7 +10,7 @@ use Rattle.book.specs.Language.{Rules}
 use Rattle.stretches.specs.Candidates.{taken}
 use Rattle.stretches.specs.Output.{marks, rewriting, symbolsOf, originsOf}
 use Rattle.stretches.specs.Position.{marksAt, takesAt, endNext}
-use Rattle.stretches.specs.Buffers.{put, greatest}
+use Rattle.stretches.specs.Lists.{put, greatest}
 
 -- the counts after i, from those before it: the output's length and the stretches taken; and where the last stretch ends
 pub record Shared (b : Rules) (t : List ℕ) (i at end taken at′ end′ taken′ : ℕ) : Type 0 where

@@ -14,7 +14,8 @@ use borrow.Author.Tests.{eq-eqb, ne-eqb, lt-ltb, le-ltb, ltb-true, ltb-false, le
 use Rattle.book.specs.Format.{symbolCount}
 use Rattle.book.specs.Reading.{checkDef}
 use Rattle.sets.specs.Workspace.{rowBytes, setWords}
-use Rattle.stretches.specs.Buffers.{longestTape, greatest}
+use Rattle.stretches.specs.Buffers.{longestTape}
+use Rattle.stretches.specs.Lists.{greatest}
 use Rattle.rewriter.specs.Replies.{firstBad, refusal, early}
 use Rattle.rewriter.specs.Opening.{Symbols}
 use Rattle.rewriter.specs.declared.Refusal.{Refusal}

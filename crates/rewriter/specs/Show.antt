@@ -2,7 +2,7 @@
 -- the account, or its start is not below its end, or its end is past the tape, it hands back the empty part at the tape's front."
 use Prim.Native.Nat.{ℕ, _+_, _-_, _*_}
 use mathlib.Core.List.{List}
-use mathlib.Core.Bool.{cond}
+use mathlib.Core.Bool.{cond, _&&_}
 use lib.Dec.{leb, ltb}
 use lib.ListN.{length, getD, take, drop}
 use Rattle.stretches.specs.Account.{lineLength}
@@ -24,12 +24,8 @@ between i j = record { start = i; end = j }
 -- the stretch that line k names in a tape of n symbols, or the empty one at the front
 unfoldable pub boundsOf : ℕ → List ℕ → ℕ → Bounds
 boundsOf n lines k =
-    cond (leb (lineLength * (k + 1)) (length lines))
-    (cond (ltb (startIn lines k) (endIn lines k))
-    (cond (leb (endIn lines k) n)
+    cond (leb (lineLength * (k + 1)) (length lines) && ltb (startIn lines k) (endIn lines k) && leb (endIn lines k) n)
     (between (startIn lines k) (endIn lines k))
-    (between 0 0))
-    (between 0 0))
     (between 0 0)
 
 -- what stands in a part of the tape

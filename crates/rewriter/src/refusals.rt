@@ -2,7 +2,7 @@
 ghost use mathlib.Core.Path.{_≡_};
 ghost use Rattle.book.specs.Reading.{checkDef};
 ghost use Rattle.rewriter.specs.Replies.{refusal, firstBad, early};
-ghost use Rattle.stretches.specs.Buffers.{greatest};
+ghost use Rattle.stretches.specs.Lists.{greatest};
 ghost use Rattle.rewriter.specs.Opening.{opened};
 use super::Refusal;
 use super::TAPE;

@@ -9,7 +9,8 @@ use native.Mathlib.Decide.{decLt}
 use lib.ListN.{length}
 use Rattle.book.specs.Reading.{bookOf}
 use Rattle.sets.specs.Numbering.{mostSets}
-use Rattle.sets.specs.Workspace.{rowBytes, setWords, leftTable, rightTable, leftCount, rightCount, AfterBuild, buildDef}
+use Rattle.sets.specs.Workspace.{rowBytes, setWords, leftTable, rightTable, AfterBuild, buildDef}
+use Rattle.sets.specs.Tables.{leftCount, rightCount}
 use Rattle.sets.specs.Counting.{leftOver, rightOver, Exactly, MoreThan}
 use Rattle.sets.proofs.Counts.{front, end, law-exactly, law-many, law-few}
 use Rattle.sets.proofs.WaysOut.{Room, Way, refused, short, many-left, many-right, built, way}

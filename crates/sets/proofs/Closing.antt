@@ -21,7 +21,8 @@ use Rattle.book.specs.StateSets.{member, encode}
 use Rattle.book.proofs.Bits.{member-or, member-and, member-none, member-encode, member-past, encode-lt, ext, lowest}
 use Rattle.book.proofs.Masking.{no-state}
 use Rattle.book.proofs.Tests.{same-test, any-up}
-use Rattle.sets.specs.Sets.{setOf, intoBy, backBy, leftFirst, leftNext, near, closed, rightLast, rightPrev, focusFirst, focusNext}
+use Rattle.sets.specs.Sets.{setOf, intoBy, backBy, leftFirst, leftNext, near, closed, rightLast, rightPrev}
+use Rattle.sets.specs.Focus.{focusFirst, focusNext}
 use Rattle.sets.specs.Stepping.{leaves, stepFold, turned, stepArcs, joins, gather}
 use Rattle.sets.proofs.Folds.{member-step}
 
@@ -35,10 +36,10 @@ member-set f n h s = go (decLt s n)
 
 -- no test of states is passed where there is no state
 module _ (b : Book) where
-  none-of : (part flag s : ℕ) → length (b .states) ≤ s → isOf part flag (stateOf b s) ≡ false
+  pub none-of : (part flag s : ℕ) → length (b .states) ≤ s → isOf part flag (stateOf b s) ≡ false
   none-of part flag s h = ap (isOf part flag) (List·getD-eq-default (b .states) noState {n = s} h) ∙ no-state part flag
 
-  none-rule : (part flag r s : ℕ) → length (b .states) ≤ s → (eqb (stateOf b s .rule) r && isOf part flag (stateOf b s)) ≡ false
+  pub none-rule : (part flag r s : ℕ) → length (b .states) ≤ s → (eqb (stateOf b s .rule) r && isOf part flag (stateOf b s)) ≡ false
   none-rule part flag r s h = ap (λ (x : Bool). eqb (stateOf b s .rule) r && x) (none-of part flag s h) ∙ B.and-false (eqb (stateOf b s .rule) r)
 
   module _ (o : Sound b) where

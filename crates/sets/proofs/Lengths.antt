@@ -5,7 +5,8 @@ use mathlib.Core.List.{List, [], _++_}
 use native.Mathlib.Omega.{arith}
 use lib.ListN.{length, drop, length-append, length-drop}
 use Rattle.sets.specs.Numbering.{mostSets, pairs, pad}
-use Rattle.sets.specs.Workspace.{rowBytes, setWords, leftCount, rightCount, AfterBuild, buildDef}
+use Rattle.sets.specs.Workspace.{rowBytes, setWords, AfterBuild, buildDef}
+use Rattle.sets.specs.Tables.{leftCount, rightCount}
 use Rattle.sets.proofs.Pad.{length-pad}
 use Rattle.sets.proofs.Tables.{left-width, right-width}
 use Rattle.sets.proofs.WaysOut.{Way, refused, short, many-left, many-right, built, way}

@@ -15,7 +15,8 @@ use Rattle.book.specs.StateSets.{member}
 use Rattle.book.specs.Sound.{Sound}
 use Rattle.book.proofs.Bits.{member-none}
 use Rattle.book.proofs.Tests.{Cut, cut-eq, and-both, and-left, and-right, same-test}
-use Rattle.sets.specs.Sets.{leftFirst, leftNext, rightLast, rightPrev, meetsAccept, meetsStart, focusFirst, focusNext, after, before, pruned, leftAt, rightAt, focusAt}
+use Rattle.sets.specs.Sets.{leftFirst, leftNext, rightLast, rightPrev, after, before, leftAt, rightAt}
+use Rattle.sets.specs.Focus.{meetsAccept, meetsStart, focusFirst, focusNext, pruned, focusAt}
 use Rattle.sets.proofs.Runs as Runs
 use Rattle.sets.proofs.Runs.{Start, Accept, Run, LeftHolds, RightHolds, Applies, LeftRun, RightRun, FocusRun, Later, run-rule, run-part}
 use Rattle.sets.proofs.Bridge.{machine, book-stays, starts-in, starts-out, ends-in, ends-out, leads-in, leads-out, left-iff, right-iff, applies-iff}

@@ -6,7 +6,8 @@ use mathlib.Core.Path.{_≡_, refl, sym, _∙_, subst}
 use mathlib.Core.Logic.{_↔_, _⊎_, inl, inr, ⊎-elim}
 use native.Mathlib.Omega.{arith}
 use Rattle.book.proofs.Tests.{Cut, nil, cons, cut-of, cut-eq}
-use Rattle.sets.specs.Sets.{after, before, pruned}
+use Rattle.sets.specs.Sets.{after, before}
+use Rattle.sets.specs.Focus.{pruned}
 
 module _ (Step : ℕ → ℕ → ℕ → Type 0) where
   -- the word leads from p to q

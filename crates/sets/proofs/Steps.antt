@@ -15,7 +15,8 @@ use Rattle.book.specs.Sound.{Sound}
 use Rattle.book.proofs.Bits.{member-encode, member-past, encode-lt}
 use Rattle.book.proofs.Sound.{arc-fits}
 use Rattle.book.proofs.Tests.{and-both, and-left, and-right, or-left, or-right, or-cases, any-in, any-out}
-use Rattle.sets.specs.Sets.{setOf, intoBy, backBy, leftFirst, leftNext, near, closed, rightLast, rightPrev, meetsAccept, meetsStart, focusFirst, focusNext}
+use Rattle.sets.specs.Sets.{setOf, intoBy, backBy, leftFirst, leftNext, near, closed, rightLast, rightPrev}
+use Rattle.sets.specs.Focus.{meetsAccept, meetsStart, focusFirst, focusNext}
 use Rattle.sets.proofs.Runs.{Start, Accept, Near, Close, Back, LeftHolds}
 use Rattle.sets.proofs.Bridge.{ArcStep, machine, opens-from, eqb-in, start-known, accept-known, some-out, some-in, starts-in, starts-out, ends-in, ends-out, start-in, start-out, accept-in, accept-out}
 

@@ -9,9 +9,9 @@ use Rattle.book.specs.Format.{symbolCount}
 use Rattle.book.specs.Reading.{bookOf}
 use Rattle.sets.specs.Sets.{leftFirst, leftNext, rightLast, rightPrev, after, before}
 use Rattle.sets.specs.Numbering.{mostSets, pairs, idx, pad}
-use Rattle.sets.specs.Workspace.{leftTable, rightTable, leftCount, rightCount, AfterBuild, stands, filled, buildDef}
+use Rattle.sets.specs.Workspace.{leftTable, rightTable, AfterBuild, stands, filled, buildDef}
+use Rattle.sets.specs.Tables.{leftCount, rightCount, leftEntry, rightEntry, leftSet, rightSet, Tables}
 use Rattle.sets.specs.Counting.{Tape, leftOver, rightOver}
-use Rattle.sets.specs.Tables.{leftEntry, rightEntry, leftSet, rightSet, Tables}
 use Rattle.sets.specs.declared.Built.{Built}
 use Rattle.sets.proofs.Pad.{length-pad, getD-pad-all}
 use Rattle.sets.proofs.Idx.{idx-distinct}

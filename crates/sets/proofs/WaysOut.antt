@@ -12,7 +12,8 @@ use lib.Seq.{drop-drop}
 use borrow.Author.Tests.{eq-eqb, ne-eqb, lt-ltb, le-ltb}
 use Rattle.book.specs.Reading.{Book, checkDef, bookOf}
 use Rattle.sets.specs.Numbering.{mostSets, pairs, Table, all, pad}
-use Rattle.sets.specs.Workspace.{rowBytes, setWords, leftTable, rightTable, leftCount, rightCount, AfterBuild, stands, refusal, unchanged, cleared, filled, numbered, buildDef}
+use Rattle.sets.specs.Workspace.{rowBytes, setWords, leftTable, rightTable, AfterBuild, stands, refusal, unchanged, cleared, filled, numbered, buildDef}
+use Rattle.sets.specs.Tables.{leftCount, rightCount}
 use Rattle.sets.specs.Sides.{firstOf, stepOf, tableOf, NumberedAt}
 use Rattle.sets.specs.declared.Built.{Built}
 use Rattle.sets.proofs.Parts.{three}

@@ -4,5 +4,6 @@ pub mod Workspace
 pub mod Counting
 pub mod Tables
 pub mod Examples
+pub mod Focus
 pub mod Stepping
 pub mod Sides

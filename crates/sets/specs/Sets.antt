@@ -1,12 +1,11 @@
 -- Document 01, "The two automata": the sets, each given by the test that its states pass.
-use Prim.Native.Nat.{ℕ, zero, suc}
-use mathlib.Core.List.{List, [], _∷_, _++_}
+use Prim.Native.Nat.{ℕ}
+use mathlib.Core.List.{List, [], _∷_}
 use mathlib.Core.Bool.{Bool, true, false, _&&_, _||_}
 use lib.Dec.{eqb}
 use lib.ListN.{length, take, drop}
-use lib.Seq.{slice}
 use Rattle.book.specs.Reading.{Arc, Book}
-use Rattle.book.specs.Language.{any, opens, stateOf, starts, ends, isStart, isAccept, someState}
+use Rattle.book.specs.Language.{any, opens, stateOf, starts, ends, isStart, someState}
 use Rattle.book.specs.StateSets.{member, encode}
 
 -- the states that pass
@@ -42,20 +41,6 @@ rightLast b = closed b (λ (s : ℕ). false)
 unfoldable pub rightPrev : Book → ℕ → ℕ → ℕ
 rightPrev b X a = closed b (backBy b X a)
 
--- the set meets the accept states, the start states of a part of rule r
-abbrev pub meetsAccept : Book → ℕ → ℕ → ℕ → Bool
-meetsAccept b r part X = someState b (λ (s : ℕ). isAccept b r part s && member X s)
-
-abbrev pub meetsStart : Book → ℕ → ℕ → ℕ → Bool
-meetsStart b r part X = someState b (λ (s : ℕ). isStart b r part s && member X s)
-
--- the pruned walk: the focus starts of the rules whose left context holds (L), in the right set R; one step on
-unfoldable pub focusFirst : Book → ℕ → ℕ → ℕ
-focusFirst b L R = setOf b (λ (s : ℕ). (starts b 1 s && meetsAccept b (stateOf b s .rule) 0 L) && member R s)
-
-unfoldable pub focusNext : Book → ℕ → ℕ → ℕ → ℕ
-focusNext b F a R = setOf b (λ (s : ℕ). intoBy b F a s && member R s)
-
 -- the set after a tape, from the set X on; the set before a tape, from the set at its end
 abbrev pub after : {S : Type 0} → (S → ℕ → S) → S → List ℕ → S
 after next X [] = X
@@ -65,18 +50,9 @@ abbrev pub before : {S : Type 0} → S → (S → ℕ → S) → List ℕ → S
 before last prev [] = last
 before last prev (a ∷ w) = prev (before last prev w) a
 
--- from F over the word u, with v after it; right gives the right set of what is still to come
-abbrev pub pruned : {S : Type 0} → (S → ℕ → S → S) → (List ℕ → S) → S → List ℕ → List ℕ → S
-pruned go right F [] v = F
-pruned go right F (a ∷ u) v = pruned go right (go F a (right (u ++ v))) u v
-
 -- the left set at i, the right set at i
 unfoldable pub leftAt : Book → List ℕ → ℕ → ℕ
 leftAt b t i = after (leftNext b) (leftFirst b) (take i t)
 
 unfoldable pub rightAt : Book → List ℕ → ℕ → ℕ
 rightAt b t i = before (rightLast b) (rightPrev b) (drop i t)
-
--- the focus states at j of the stretches that begin at i and can still end well
-unfoldable pub focusAt : Book → List ℕ → ℕ → ℕ → ℕ
-focusAt b t i j = pruned (focusNext b) (before (rightLast b) (rightPrev b)) (focusFirst b (leftAt b t i) (rightAt b t i)) (slice i j t) (drop j t)

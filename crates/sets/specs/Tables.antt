@@ -7,7 +7,14 @@ use Rattle.book.specs.Format.{symbolCount}
 use Rattle.book.specs.Reading.{bookOf}
 use Rattle.sets.specs.Sets.{leftFirst, leftNext, rightLast, rightPrev}
 use Rattle.sets.specs.Numbering.{mostSets, pairs}
-use Rattle.sets.specs.Workspace.{rowBytes, setWords, leftCount, rightCount}
+use Rattle.sets.specs.Workspace.{rowBytes, setWords, leftTable, rightTable}
+
+-- "BUILD the two set counts"
+unfoldable pub leftCount : List ℕ → ℕ
+leftCount book = length (leftTable (bookOf book) .sets)
+
+unfoldable pub rightCount : List ℕ → ℕ
+rightCount book = length (rightTable (bookOf book) .sets)
 
 -- "left rows, then right rows: 256 rows of 16 next numbers a side": entry a of row k
 abbrev pub leftEntry : List ℕ → ℕ → ℕ → ℕ

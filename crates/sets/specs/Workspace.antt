@@ -23,13 +23,6 @@ leftTable b = all (leftNext b) (leftFirst b)
 unfoldable pub rightTable : Book → Table
 rightTable b = all (rightPrev b) (rightLast b)
 
--- "BUILD the two set counts"
-unfoldable pub leftCount : List ℕ → ℕ
-leftCount book = length (leftTable (bookOf book) .sets)
-
-unfoldable pub rightCount : List ℕ → ℕ
-rightCount book = length (rightTable (bookOf book) .sets)
-
 -- what stands after BUILD
 pub record AfterBuild : Type 0 where
   pub answer : Built

@@ -10,7 +10,7 @@ ghost use Rattle.book.specs.Format.{byte, symbolCount, mostRules, mostStates};
 ghost use Rattle.book.specs.Reading.{arcAt, checkDef, bookOf};
 ghost use Rattle.book.specs.Language.{stateOf};
 ghost use Rattle.book.specs.Outline.{Placed, EachMask};
-ghost use Rattle.sets.specs.Sets.{focusFirst, focusNext};
+ghost use Rattle.sets.specs.Focus.{focusFirst, focusNext};
 ghost use Rattle.sets.specs.Stepping.{hopFold, stepFold, isEnd, stepArcs, arcBytes, ArcStands, SweptAll, between, Added, Stepped, joins, gather, sideArcs, closeBy};
 
 // Where an arc's record names its two states.

@@ -13,7 +13,8 @@ use Rattle.book.specs.Language.{any, upFrom, accepts, rules}
 use Rattle.book.specs.StateSets.{member}
 use Rattle.book.specs.Sound.{Sound}
 use Rattle.book.proofs.Tests.{any-out}
-use Rattle.sets.specs.Sets.{meetsAccept, meetsStart, leftAt, rightAt, focusAt}
+use Rattle.sets.specs.Sets.{leftAt, rightAt}
+use Rattle.sets.specs.Focus.{meetsAccept, meetsStart, focusAt}
 use Rattle.sets.proofs.Meaning.{left-holds, right-holds, focus-test, focus-dead, focus-live}
 use Rattle.stretches.specs.Candidates.{candidate, someRule, rulesOf, firstOf, lastOf, longest}
 use Rattle.stretches.proofs.NoEmpty.{longest-past}

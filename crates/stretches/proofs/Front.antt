@@ -8,7 +8,8 @@ use mathlib.Core.Path.{_≡_, refl, sym, _∙_, ap}
 use mathlib.Core.List.{List, [], _∷_, _++_, append-assoc, append-nil}
 use lib.ListN.{length, take, drop, set, length-append, length-drop, take-append-drop}
 use lib.Seq.{length-take-le, take-at, drop-at, drop-drop, set-split, append-snoc}
-use Rattle.stretches.specs.Buffers.{onto, put}
+use Rattle.stretches.specs.Buffers.{onto}
+use Rattle.stretches.specs.Lists.{put}
 
 pub record Front (l₀ l : List ℕ) (at : ℕ) (more whole : List ℕ) : Type 0 where
   pub within : at ≤ length l

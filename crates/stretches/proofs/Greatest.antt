@@ -6,7 +6,7 @@ use native.Mathlib.Numerals.{add-one}
 use native.Mathlib.Omega.{arith}
 use lib.ListN.{length, drop, getD, drop-of-length-le}
 use lib.Seq.{drop-cons}
-use Rattle.stretches.specs.Buffers.{greatest}
+use Rattle.stretches.specs.Lists.{greatest}
 
 pub greatest-least : (l : List ℕ) (n : ℕ) → n ≤ greatest n l
 unfolding greatest

@@ -7,7 +7,7 @@ use lib.ListN.{length, getD}
 use Rattle.book.specs.Format.{symbolCount}
 use Rattle.book.specs.Reading.{bookOf}
 use Rattle.sets.specs.Sets.{leftAt, leftNext}
-use Rattle.sets.specs.Workspace.{leftCount}
+use Rattle.sets.specs.Tables.{leftCount}
 use Rattle.sets.proofs.Meaning.{left-first, left-next}
 use Rattle.stretches.specs.Ready.{Ready}
 

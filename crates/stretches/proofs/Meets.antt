@@ -12,20 +12,20 @@ use borrow.Author.Tests.{ne-eqb}
 use lib.Dec.{T, eqb}
 use lib.Bits.{bitAnd, bitOr, or-zero-r, and-le-r}
 use lib.Count.{trailingZeros}
-use lib.ListN.{length, getD, drop, List·getD-eq-default}
+use lib.ListN.{length, getD, drop}
 use lib.Seq.{getD-drop}
 use Rattle.book.specs.Format.{mostRules, mostStates}
 use Rattle.book.specs.Reading.{Book}
-use Rattle.book.specs.Language.{upFrom, rules, noState, stateOf, isOf, starts, isStart, isAccept, someState}
+use Rattle.book.specs.Language.{upFrom, rules, stateOf, isOf, starts, isStart, isAccept, someState}
 use Rattle.book.specs.StateSets.{member, encode}
 use Rattle.book.specs.Sound.{Sound}
 use Rattle.book.specs.Outline.{ruleMask, allMask}
 use Rattle.book.proofs.Bits.{member-and, member-none, encode-lt, ext, lowest}
 use Rattle.book.proofs.Tests.{and-both, and-left, and-right, same-test, any-up}
-use Rattle.book.proofs.Masking.{no-state}
-use Rattle.sets.specs.Sets.{setOf, meetsAccept, meetsStart, focusFirst}
+use Rattle.sets.specs.Sets.{setOf}
+use Rattle.sets.specs.Focus.{meetsAccept, meetsStart, focusFirst}
 use Rattle.sets.specs.Stepping.{joins, gather}
-use Rattle.sets.proofs.Closing.{member-set, focus-first}
+use Rattle.sets.proofs.Closing.{member-set, none-of, none-rule, focus-first}
 use Rattle.sets.proofs.Steps.{set-law}
 use Rattle.stretches.specs.Candidates.{firstOf}
 use Rattle.stretches.specs.Ready.{leftAccepts, focusStarts, focusAccepts, rightStarts, allStarts, allAccepts, Tests}
@@ -35,26 +35,13 @@ use Rattle.stretches.proofs.First.{first-none}
 is-false : (c : Bool) → (T c → ⊥) → c ≡ false
 is-false c h = same-test c false (λ t. absurd (h t), λ t. absurd t)
 
-and-swap : (p q : Bool) → (p && q) ≡ (q && p)
-and-swap true true = refl
-and-swap true false = refl
-and-swap false true = refl
-and-swap false false = refl
-
--- no test of states is passed where there is no state
-past-of : (b : Book) (part flag s : ℕ) → length (b .states) ≤ s → isOf part flag (stateOf b s) ≡ false
-past-of b part flag s h = ap (isOf part flag) (List·getD-eq-default (b .states) noState {n = s} h) ∙ no-state part flag
-
-past-rule : (b : Book) (part flag r s : ℕ) → length (b .states) ≤ s → (eqb (stateOf b s .rule) r && isOf part flag (stateOf b s)) ≡ false
-past-rule b part flag r s h = ap (λ (c : Bool). eqb (stateOf b s .rule) r && c) (past-of b part flag s h) ∙ B.and-false (eqb (stateOf b s .rule) r)
-
 -- the set X and the mask of the states that pass f
 module _ (b : Book) (o : Sound b) (f : ℕ → Bool) (past : (s : ℕ) → length (b .states) ≤ s → f s ≡ false) (X : ℕ) where
   in-both : (s : ℕ) → member (bitAnd X (encode f mostStates)) s ≡ (f s && member X s)
   in-both s =
       member-and X (encode f mostStates) s
       ∙ ap (λ (c : Bool). member X s && c) (member-set f mostStates (λ k h. past k (omega (arith, o .states))) s)
-      ∙ and-swap (member X s) (f s)
+      ∙ B.and-comm (member X s) (f s)
 
   none-both : bitAnd X (encode f mostStates) ≡ 0 → (s : ℕ) → (f s && member X s) ≡ false
   none-both e s = sym (in-both s) ∙ ap (λ (n : ℕ). member n s) e ∙ member-none s
@@ -93,11 +80,11 @@ module _ (b : Book) (n : ℕ) (masks : List ℕ) (m : Tests b n masks) where
 
     past-accept : (s : ℕ) → length (b .states) ≤ s → isAccept b r 1 s ≡ false
     unfolding isAccept
-    past-accept s h = past-rule b 1 2 r s h
+    past-accept s h = none-rule b 1 2 r s h
 
     past-start : (s : ℕ) → length (b .states) ≤ s → isStart b r 2 s ≡ false
     unfolding isStart
-    past-start s h = past-rule b 2 1 r s h
+    past-start s h = none-rule b 2 1 r s h
 
     pub miss-focus : bitAnd X (getD masks (focusAccepts r) 0) ≡ 0 → false ≡ hits b X R r
     unfolding hits
@@ -119,7 +106,7 @@ module _ (b : Book) (n : ℕ) (masks : List ℕ) (m : Tests b n masks) where
   none-hits X R e r = ap (λ (c : Bool). c && meetsStart b r 2 R) no-one
     where
       none : (s : ℕ) → (isOf 1 2 (stateOf b s) && member X s) ≡ false
-      none = none-both b (m .sound) (λ s. isOf 1 2 (stateOf b s)) (past-of b 1 2) X (sym (ap (bitAnd X) (m .any-accept)) ∙ e)
+      none = none-both b (m .sound) (λ s. isOf 1 2 (stateOf b s)) (none-of b 1 2) X (sym (ap (bitAnd X) (m .any-accept)) ∙ e)
 
       no-one : meetsAccept b r 1 X ≡ false
       no-one = is-false (meetsAccept b r 1 X) (λ t.
@@ -144,7 +131,7 @@ module _ (b : Book) (n : ℕ) (masks : List ℕ) (m : Tests b n masks) where
       f s = (starts b 1 s && meetsAccept b (stateOf b s .rule) 0 L) && member R s
 
       none : (s : ℕ) → (isOf 1 1 (stateOf b s) && member R s) ≡ false
-      none = none-both b (m .sound) (λ s. isOf 1 1 (stateOf b s)) (past-of b 1 1) R (sym (ap (bitAnd R) (m .any-first)) ∙ e)
+      none = none-both b (m .sound) (λ s. isOf 1 1 (stateOf b s)) (none-of b 1 1) R (sym (ap (bitAnd R) (m .any-first)) ∙ e)
 
   -- the rules that there are not give nothing
   mask-none : (r : ℕ) → n ≤ r → ruleMask 1 1 (b .states) r ≡ 0
@@ -159,7 +146,7 @@ module _ (b : Book) (n : ℕ) (masks : List ℕ) (m : Tests b n masks) where
         where
           go : Dec (s < length (b .states)) → f s ≡ false
           go (yes l) = ap (λ (c : Bool). c && isOf 1 1 (stateOf b s)) (ne-eqb (stateOf b s .rule) r (λ e. omega (arith, m .sound .rule s l, m .many)))
-          go (no l) = past-rule b 1 1 r s (omega arith)
+          go (no l) = none-rule b 1 1 r s (omega arith)
 
   joins-none : (L t g : ℕ) → g ≡ 0 → joins L t g ≡ 0
   joins-none L t g e = ap (λ (x : ℕ). cond (eqb (bitAnd L t) 0) 0 x) e ∙ same (eqb (bitAnd L t) 0)

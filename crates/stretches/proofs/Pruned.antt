@@ -10,7 +10,8 @@ use lib.Dec.{T}
 use lib.ListN.{length, getD}
 use Rattle.book.specs.Reading.{Book, bookOf}
 use Rattle.book.specs.Language.{rulesIn}
-use Rattle.sets.specs.Sets.{leftAt, rightAt, focusAt, focusFirst, focusNext, meetsAccept, meetsStart}
+use Rattle.sets.specs.Sets.{leftAt, rightAt}
+use Rattle.sets.specs.Focus.{focusAt, focusFirst, focusNext, meetsAccept, meetsStart}
 use Rattle.sets.specs.Numbering.{mostSets}
 use Rattle.sets.proofs.Meaning.{focus-first, focus-next}
 use Rattle.stretches.specs.Candidates.{candidate}

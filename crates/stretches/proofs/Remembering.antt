@@ -9,7 +9,7 @@ use lib.Bits.{bitAnd}
 use lib.ListN.{getD, set, replicate, length-set, length-replicate, getD-replicate}
 use lib.Seq.{getD-set-same, getD-set-other}
 use Rattle.book.specs.Reading.{Book, checkDef, bookOf}
-use Rattle.sets.specs.Sets.{focusNext}
+use Rattle.sets.specs.Focus.{focusNext}
 use Rattle.sets.specs.Stepping.{stepFold}
 use Rattle.sets.proofs.Folds.{step-none}
 use Rattle.sets.proofs.Closing.{focus-pruned}

@@ -15,7 +15,8 @@ use Rattle.book.specs.Sound.{Sound}
 use Rattle.book.proofs.Accepted.{is-accepted}
 use Rattle.book.proofs.Sound.{accepted-sound}
 use Rattle.book.proofs.Tests.{and-left, same-test}
-use Rattle.sets.specs.Sets.{leftAt, rightAt, focusAt, focusFirst, focusNext, meetsAccept, meetsStart}
+use Rattle.sets.specs.Sets.{leftAt, rightAt}
+use Rattle.sets.specs.Focus.{focusAt, focusFirst, focusNext, meetsAccept, meetsStart}
 use Rattle.sets.specs.Numbering.{mostSets}
 use Rattle.sets.proofs.Meaning.{focus-first, focus-next}
 use Rattle.stretches.specs.Candidates.{candidate, someRule, longest, ruleOf, firstOf, lastOf, rulesOf}

@@ -7,5 +7,6 @@ pub mod Books
 pub mod Table
 pub mod Insertions
 pub mod Buffers
+pub mod Lists
 pub mod Ready
 pub mod Position

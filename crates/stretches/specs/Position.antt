@@ -9,7 +9,7 @@ use lib.ListN.{getD}
 use Rattle.book.specs.Format.{mostRules}
 use Rattle.book.specs.Reading.{Book}
 use Rattle.book.specs.Language.{Rules, rules}
-use Rattle.sets.specs.Sets.{meetsAccept, meetsStart}
+use Rattle.sets.specs.Focus.{meetsAccept, meetsStart}
 use Rattle.stretches.specs.Candidates.{Stretch, rulesOf, firstOf, longest, ruleOf, fresh, takenAt}
 use Rattle.stretches.specs.Output.{Mark, writtenAt}
 

@@ -11,7 +11,8 @@ use Rattle.book.specs.Outline.{Placed, ruleMask, allMask}
 use Rattle.sets.specs.Sets.{leftFirst, leftNext, rightAt}
 use Rattle.sets.specs.Stepping.{stepFold}
 use Rattle.sets.specs.Numbering.{mostSets}
-use Rattle.sets.specs.Workspace.{rowBytes, setWords, leftCount}
+use Rattle.sets.specs.Workspace.{rowBytes, setWords}
+use Rattle.sets.specs.Tables.{leftCount}
 use Rattle.stretches.specs.Buffers.{longestTape}
 
 -- the masks of the rules, one kind after the other, sixteen a kind: where the left accepts, the focus starts, the focus accepts and the right
