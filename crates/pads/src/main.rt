@@ -4,7 +4,6 @@ ghost use Prim.Native.Nat.{_≤_, _<_};
 ghost use lib.ListN.{length};
 ghost use Rattle.pads.specs.Hex.{symbolOf};
 
-mod house; // house.rt: the house book
 mod print; // print.rt: the lines printed
 
 use libc::STDIN_FILENO;

@@ -41,7 +41,7 @@ const HOUSE: [u8; 148] = *b"\
     \x04";
 
 // The constant is the house book of the definitions, and CHECK's definition accepts it.
-pub(crate) fn house_book() -> [u8; 148]
+pub fn house_book() -> [u8; 148]
     ensures { λ r. ⌜ r ≡ house ⌝ }
     ensures { λ r. ⌜ checkDef r .reply ≡ 0 ⌝ }
 {

@@ -2,8 +2,8 @@
 use mathlib.Core.Path.{refl, ap}
 use Rattle.book.specs.declared.Checked.{Checked}
 use Rattle.book.specs.House.{house, house-accepted}
-use Rattle.pads.proofs.house.house_book.Statement.{statement}
-use Rattle.pads.proofs.house.house_book.Tie as tie
+use Rattle.house.proofs.house_book.Statement.{statement}
+use Rattle.house.proofs.house_book.Tie as tie
 
 returns : tie.Need-returns
 unfolding house
