@@ -1,18 +1,16 @@
 -- The laws of sets as numbers. Assumes nothing.
-use mathlib.Core.Path.{_≡_, refl, sym, ap, ap₂, _∙_, subst}
-use mathlib.Core.Logic.{_⊎_, inl, inr}
-use Prim.Native.Nat.{ℕ, zero, suc, _+_, _-_, _*_, _/_, _%_, _^_, _≤_, _<_, min, max, zero-le, suc-le-suc}
-use native.Mathlib.Nat.{div-one, div-div-eq-div-mul, pow-succ', pow-suc, not-suc-le-zero, mod-lt, zero-lt-suc, le-of-suc-le-suc, zero-div}
+use mathlib.Core.Path.{_≡_, refl, sym, ap, ap₂, _∙_}
+use mathlib.Core.Logic.{_⊎_}
+use Prim.Native.Nat.{ℕ, zero, suc, _+_, _-_, _*_, _/_, _%_, _^_, _≤_, _<_, min, max, suc-le-suc}
+use native.Mathlib.Nat.{div-one, div-div-eq-div-mul, pow-succ', not-suc-le-zero, mod-lt, zero-lt-suc, le-of-suc-le-suc}
 use native.Mathlib.Nat.{lt-of-lt-of-le, div-eq-of-lt, one-mul}
 use native.Mathlib.Omega.{arith}
-use lib.Pow.{pow-mono, pow-lt, pow-pos, shl-exact}
-use lib.Arith.{lt-of-le-ne}
-use native.Mathlib.Numerals.{add-one}
-use borrow.Author.Tests.{eqb-true, eqb-false}
+use lib.Pow.{pow-mono, shl-exact}
+use borrow.Author.Tests.{eqb-true}
 use mathlib.Core.Bool as B
 use mathlib.Core.Bool.{Bool, true, false, cond, not, _&&_, _||_}
 use lib.Dec.{eqb, eqb·suc-suc, eqb·zero-suc, eqb·suc-zero}
-use lib.Bits.{bitAnd, bitOr, bitXor, or-shr, or-step, and-shr, and-step, or-lt, and-le-l, and-le-r, and-self, xor-add-and}
+use lib.Bits.{bitAnd, bitOr, or-shr, or-step, and-shr, and-step, and-le-r, and-self}
 use lib.Count.{trailingZeros, under}
 use Rattle.book.specs.StateSets.{member, encode}
 
@@ -168,9 +166,6 @@ member-encode p (suc k) (suc s) h =
 pub is-encode : (p : ℕ → Bool) (k n : ℕ) → n < 2 ^ k → ((s : ℕ) → s < k → member n s ≡ p s) → n ≡ encode p k
 is-encode p k n h e = ext-below k n (encode p k) h (encode-lt p k) (λ s l. e s l ∙ sym (member-encode p k s l))
 
-pub encode-same : (p q : ℕ → Bool) (k : ℕ) → ((s : ℕ) → s < k → p s ≡ q s) → encode p k ≡ encode q k
-encode-same p q k e = is-encode q k (encode p k) (encode-lt p k) (λ s l. member-encode p k s l ∙ e s l)
-
 -- a state at or past the bound is in no set below it
 pub member-past : (k n s : ℕ) → n < 2 ^ k → k ≤ s → member n s ≡ false
 unfolding member
@@ -284,53 +279,9 @@ lowest-or d x t l =
     ∙ ap₂ (λ (p q : Bool). p || q) (member-one t s) (l .rest s)
     ∙ bool-split (member x s) (eqb s t) (λ e. ap (member x) (eqb-true s t e) ∙ l .is-in))
 
--- the other ways to drop it
-pub lowest-sub : (d x t : ℕ) → Lowest d x t → x - 2 ^ t ≡ without x
-lowest-sub d x t l = omega (arith, l .sum)
-
-and-one : (x t : ℕ) → member x t ≡ true → bitAnd x (2 ^ t) ≡ 2 ^ t
-and-one x t h =
-    ext _ _ (λ s. member-and x (2 ^ t) s ∙ ap (λ (b : Bool). member x s && b) (member-one t s)
-    ∙ bool-and (member x s) (eqb s t) (λ e. ap (member x) (eqb-true s t e) ∙ h) ∙ sym (member-one t s))
-  where
-    bool-and : (m e : Bool) → (e ≡ true → m ≡ true) → (m && e) ≡ e
-    bool-and true e h = refl
-    bool-and false true h = h refl
-    bool-and false false h = refl
-
-pub lowest-xor : (d x t : ℕ) → Lowest d x t → bitXor x (2 ^ t) ≡ without x
-lowest-xor d x t l = solve (bitXor x (2 ^ t)) (bitAnd x (2 ^ t)) (without x) (2 ^ t) x (xor-add-and x (2 ^ t)) (and-one x t (l .is-in)) (l .sum)
-  where
-    solve : (a b c p x : ℕ) → a + b * 2 ≡ x + p → b ≡ p → p + c ≡ x → a ≡ c
-    solve a b c p x e f g = omega arith
-
 pub without-less : (x : ℕ) → 0 < x → without x < x
 without-less x h = omega (arith, and-le-r x (x - 1))
 
 -- what the code's shift gives
 pub worth : (s : ℕ) → s < 64 → (1 * 2 ^ s) % 2 ^ 64 ≡ 2 ^ s
 worth s h = shl-exact 1 s 64 (omega arith) (omega arith) ∙ one-mul (2 ^ s)
-
--- ---- one state more: what a loop over the states adds
-
-member-cond : (b : Bool) (p t : ℕ) → member (cond b (2 ^ p) 0) t ≡ (b && eqb t p)
-member-cond true p t = member-one p t
-member-cond false p t = member-none t
-
-cond-lt : (b : Bool) (k : ℕ) → cond b (2 ^ k) 0 < 2 ^ suc k
-cond-lt true k = pow-lt (omega arith)
-cond-lt false k = pow-pos (suc k)
-
-pub encode-more : (p : ℕ → Bool) (k : ℕ) → encode p (k + 1) ≡ bitOr (encode p k) (cond (p k) (2 ^ k) 0)
-encode-more p k =
-    ap (encode p) (add-one k)
-    ∙ sym (is-encode p (suc k) (bitOr (encode p k) (cond (p k) (2 ^ k) 0)) (or-lt (suc k) (encode p k) (cond (p k) (2 ^ k) 0) (omega (arith, encode-lt p k)) (cond-lt (p k) k))
-    (λ s l. member-or (encode p k) (cond (p k) (2 ^ k) 0) s ∙ ap (λ (b : Bool). member (encode p k) s || b) (member-cond (p k) k s) ∙ pick s l (eqb s k) refl))
-  where
-    pick : (s : ℕ) → s < suc k → (b : Bool) → eqb s k ≡ b → (member (encode p k) s || p k && b) ≡ p s
-    pick s l true e =
-        ap (λ (m : Bool). m || p k && true) (member-past k (encode p k) s (encode-lt p k) (omega (arith, eqb-true s k e)))
-        ∙ B.and-true (p k) ∙ ap p (sym (eqb-true s k e))
-    pick s l false e =
-        ap (λ (m : Bool). m || p k && false) (member-encode p k s (lt-of-le-ne (le-of-suc-le-suc l) (eqb-false s k e)))
-        ∙ ap (λ (m : Bool). p s || m) (B.and-false (p k)) ∙ B.or-false (p s)

@@ -10,12 +10,11 @@ use lib.ListN.{length}
 use lib.Seq.{slice}
 use Rattle.book.specs.Reading.{Book}
 use Rattle.book.specs.Language.{any, upFrom, accepts, rules}
-use Rattle.book.specs.StateSets.{member}
 use Rattle.book.specs.Sound.{Sound}
 use Rattle.book.proofs.Tests.{any-out}
 use Rattle.sets.specs.Sets.{leftAt, rightAt}
 use Rattle.sets.specs.Focus.{meetsAccept, meetsStart, focusAt}
-use Rattle.sets.proofs.Meaning.{left-holds, right-holds, focus-test, focus-dead, focus-live}
+use Rattle.sets.proofs.Meaning.{left-holds, right-holds, focus-test, focus-dead}
 use Rattle.stretches.specs.Candidates.{candidate, someRule, rulesOf, firstOf, lastOf, longest}
 use Rattle.stretches.proofs.NoEmpty.{longest-past}
 use Rattle.stretches.proofs.Last.{last-none, last-split, last-snoc}
@@ -36,11 +35,6 @@ module _ (b : Book) (h : Sound b) (t : List ℕ) where
     pub dead : (r j k : ℕ) → i ≤ j → j ≤ k → focusAt b t i j ≡ 0 → T (candidate (rules b) t i k r) → ⊥
     unfolding candidate
     dead r j k g l none c = focus-dead b h t i j k r g l none c
-
-    -- and where it is not, some candidate does
-    pub live : (s j : ℕ) → i ≤ j → j ≤ length t → T (member (focusAt b t i j) s) → (k r : ℕ) × (j ≤ k) × (k ≤ length t) × T (candidate (rules b) t i k r)
-    unfolding candidate
-    live s j g l x = focus-live b h t i j s g l x
 
     -- the scan: j goes up from i, and best is the last end met
     abbrev pub Best : ℕ → ℕ → Type 0

@@ -78,14 +78,6 @@ module _ (b : Rules) (t : List ℕ) where
   pub symbol-end : (i : ℕ) → length t ≤ i → symbolAt i ≡ []
   symbol-end i h = ap (take 1) (drop-of-length-le t {i = i} h)
 
-  -- the walk, a position at a time, as the loops of REWRITE and ACCOUNT take it
-  pub along-step {ℓ} : {A : Type ℓ} (f : ℕ → List ℕ → Stretch → List A) (i : ℕ) (c : Stretch) → i < length t
-      → along f b t i c (drop i t) ≡ f i (getD t i 0 ∷ []) (cover b t i c) ++ along f b t (suc i) (cover b t i c) (drop (suc i) t)
-  along-step f i c h = ap (along f b t i c) (drop-cons t i 0 h)
-
-  pub along-last {ℓ} : {A : Type ℓ} (f : ℕ → List ℕ → Stretch → List A) (c : Stretch) → along f b t (length t) c (drop (length t) t) ≡ f (length t) [] (cover b t (length t) c)
-  along-last f c = ap (along f b t (length t) c) (drop-of-length-le t {i = length t} (omega arith))
-
   along-over {ℓ} : {A : Type ℓ} (f : ℕ → List ℕ → Stretch → List A) (m i : ℕ) (c : Stretch) → cover b t i c ≡ over i → i + m ≡ length t
       → along f b t i c (drop i t) ≡ each (λ (k : ℕ). f k (symbolAt k) (over k)) i (suc m)
   unfolding over
