@@ -218,7 +218,7 @@ fn deciding_at(
 }
 
 // The whole account, where there is room for it.
-pub fn write_lines(
+pub(crate) fn write_lines(
     book: &[u8],
     places: &[u16; book::STATES],
     masks: &[u64; MASKS],

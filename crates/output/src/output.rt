@@ -28,7 +28,7 @@ fn word_length(book: &[u8], from: usize) -> usize
 }
 
 // No more symbols than these stand for one position: those of the longest word, or the one that is kept.
-pub fn longest_word(book: &[u8], words: &[u16; book::RULES], rules: usize) -> usize
+pub(crate) fn longest_word(book: &[u8], words: &[u16; book::RULES], rules: usize) -> usize
     requires { ⌜ (rules ≡ length (bookOf (now book) .words)) × (rules ≤ mostRules) ⌝ }
     requires { ⌜ WordsAt (now book) (bookOf (now book) .words) (now words) ⌝ }
     ensures { λ r. ⌜ r ≡ mostMarks (rulesIn (now (book .entry))) ⌝ }
@@ -156,7 +156,7 @@ pub struct Size {
     pub taken: usize,
 }
 
-pub fn measure(
+pub(crate) fn measure(
     book: &[u8],
     places: &[u16; book::STATES],
     masks: &[u64; MASKS],
@@ -287,7 +287,7 @@ fn place(
 }
 
 // The writing pass, where there is room for the whole output; it counts as it writes.
-pub fn forward(
+pub(crate) fn forward(
     book: &[u8],
     places: &[u16; book::STATES],
     masks: &[u64; MASKS],

@@ -1,6 +1,7 @@
 // The step of a set, read from the book's bytes; no arc is copied. A walk steps a set of focus states on one symbol: trailing zeros pick the
 // next state, and the arcs of a state stand between its own record and the end of its rule. BUILD steps a set on all symbols in one reading of
-// the book, along the arcs or against them.
+// the book, along the arcs or against them. What is public here serves walks over tapes, whose callers have CHECK's reply and the places or masks
+// of the book already: hence a `requires`.
 ghost use mathlib.Core.Path.{_≡_};
 ghost use mathlib.Core.Bool.{true, cond};
 ghost use Prim.Native.Nat.{_+_, _<_, _≤_, _^_};
