@@ -9,7 +9,7 @@ use lib.Dec.{eqb}
 use lib.ListN.{length}
 use Rattle.book.specs.Reading.{bookOf}
 use Rattle.book.specs.Language.{rulesIn}
-use Rattle.sets.proofs.Lengths.{build-rows, build-sets}
+use Rattle.sets.proofs.Tables.{build-rows, build-sets}
 use Rattle.stretches.specs.Account.{lineLength}
 use Rattle.rewriter.specs.Replies.{rightNumbers, AfterReady, readyDef, AfterRewrite, rewriteDef, AfterAccount, accountDef}
 use Rattle.rewriter.proofs.Onto.{onto-length}

@@ -12,8 +12,7 @@ use borrow.Author.Tests.{eq-eqb, ne-eqb}
 use Rattle.book.specs.Reading.{Book, checkDef, bookOf}
 use Rattle.sets.specs.Sets.{rightAt}
 use Rattle.sets.specs.Workspace.{AfterBuild, stands, buildDef}
-use Rattle.sets.specs.Counting.{Tape}
-use Rattle.sets.specs.Tables.{rightSet}
+use Rattle.sets.specs.Tables.{rightSet, Tape}
 use Rattle.sets.specs.declared.Built.{Built}
 use Rattle.sets.proofs.Tables.{tables, right-walk, right-number}
 use Rattle.rewriter.specs.Replies.{refusal, early, rightNumbers, AfterReady, readyLeaves, readyDef}

@@ -22,38 +22,10 @@ use Rattle.book.proofs.Bits.{member-or, member-and, member-none, member-encode,
 use Rattle.book.proofs.Masking.{no-state}
 use Rattle.book.proofs.Tests.{same-test, any-up}
 use Rattle.sets.specs.Sets.{setOf, intoBy, backBy, leftFirst, leftNext, near, closed, rightLast, rightPrev}
-use Rattle.sets.specs.Focus.{focusFirst, focusNext}
+use Rattle.sets.specs.Focus.{focusStep}
 use Rattle.sets.specs.Stepping.{leaves, stepFold, turned, stepArcs, joins, gather}
 use Rattle.sets.proofs.Folds.{member-step}
-
--- the members of a set, for every number
-pub member-set : (f : ℕ → Bool) (n : ℕ) → ((s : ℕ) → n ≤ s → f s ≡ false) → (s : ℕ) → member (encode f n) s ≡ f s
-member-set f n h s = go (decLt s n)
-  where
-    go : Dec (s < n) → member (encode f n) s ≡ f s
-    go (yes l) = member-encode f n s l
-    go (no l) = member-past n (encode f n) s (encode-lt f n) (omega arith) ∙ sym (h s (omega arith))
-
--- no test of states is passed where there is no state
-module _ (b : Book) where
-  pub none-of : (part flag s : ℕ) → length (b .states) ≤ s → isOf part flag (stateOf b s) ≡ false
-  none-of part flag s h = ap (isOf part flag) (List·getD-eq-default (b .states) noState {n = s} h) ∙ no-state part flag
-
-  pub none-rule : (part flag r s : ℕ) → length (b .states) ≤ s → (eqb (stateOf b s .rule) r && isOf part flag (stateOf b s)) ≡ false
-  none-rule part flag r s h = ap (λ (x : Bool). eqb (stateOf b s .rule) r && x) (none-of part flag s h) ∙ B.and-false (eqb (stateOf b s .rule) r)
-
-  module _ (o : Sound b) where
-    member-all : (part flag s : ℕ) → member (allMask part flag (b .states)) s ≡ isOf part flag (stateOf b s)
-    unfolding allMask
-    member-all part flag s = member-set (λ k. isOf part flag (stateOf b k)) mostStates (λ k h. none-of part flag k (omega (arith, o .states))) s
-
-    member-rule : (part flag r s : ℕ) → member (ruleMask part flag (b .states) r) s ≡ (eqb (stateOf b s .rule) r && isOf part flag (stateOf b s))
-    unfolding ruleMask
-    member-rule part flag r s = member-set (λ k. eqb (stateOf b k .rule) r && isOf part flag (stateOf b k)) mostStates (λ k h. none-rule part flag r k (omega (arith, o .states))) s
-
-    member-of : (f : ℕ → Bool) → ((s : ℕ) → length (b .states) ≤ s → f s ≡ false) → (s : ℕ) → member (setOf b f) s ≡ f s
-    unfolding setOf
-    member-of f h s = member-set f (length (b .states)) h s
+use Rattle.sets.proofs.Masks.{none-of, none-rule, member-all, member-rule, member-of, member-joins, at-rule, below-more, meets}
 
 -- the step's members as the definitions say them
 into-one : (m l h e e′ t : Bool) → e ≡ e′ → t ≡ true → (m && (l && h) && e) ≡ (m && ((t && (l && h)) && e′))
@@ -120,7 +92,7 @@ any-none : (f : Arc → Bool) (arcs : List Arc) → ((j : ℕ) → j < length ar
 any-none f [] h = refl
 any-none f (a ∷ arcs) h = ap₂ (λ (p q : Bool). p || q) (h 0 (omega arith)) (any-none f arcs (λ j l. h (suc j) (omega arith)))
 
-into-past : (b : Book) (X c s : ℕ) → Sound b → length (b .states) ≤ s → intoBy b X c s ≡ false
+pub into-past : (b : Book) (X c s : ℕ) → Sound b → length (b .states) ≤ s → intoBy b X c s ≡ false
 unfolding intoBy
 into-past b X c s o h =
     any-none (λ (x : Arc). member X (x .from) && (opens x (x .from) c && eqb (x .to) s)) (b .arcs)
@@ -144,62 +116,15 @@ left-next b X c o =
 
 -- ---- the closure
 
-member-joins : (t : Bool) (a s : ℕ) → member (cond t 0 a) s ≡ (not t && member a s)
-member-joins true a s = member-none s
-member-joins false a s = refl
-
-join-same : (k e : Bool) → ((false && (e && k)) || (k && (true && e))) ≡ (true && (e && k))
-join-same true true = refl
-join-same true false = refl
-join-same false true = refl
-join-same false false = refl
-
-join-other : (t k e : Bool) → (t || (k && (false && e))) ≡ t
-join-other true k e = refl
-join-other false true e = refl
-join-other false false e = refl
-
 -- what is given by the masks of two parts with their flags
 module _ (b : Book) (o : Sound b) (p₁ f₁ p₂ f₂ : ℕ) (x : ℕ) (S A : List ℕ) (ms : EachMask p₁ f₁ (b .states) S) (ma : EachMask p₂ f₂ (b .states) A) where
   tested : ℕ → ℕ → Bool
   tested r s = (eqb (stateOf b s .rule) r && isOf p₁ f₁ (stateOf b s)) && member x s
 
-  both : (r s : ℕ) → r < mostRules → member (bitAnd x (getD S r 0)) s ≡ tested r s
-  unfolding tested
-  both r s h =
-      member-and x (getD S r 0) s
-      ∙ ap (λ (q : Bool). member x s && q) (ap (λ (y : ℕ). member y s) (ms r h) ∙ member-rule b o p₁ f₁ r s)
-      ∙ B.and-comm (member x s) (eqb (stateOf b s .rule) r && isOf p₁ f₁ (stateOf b s))
-
-  small : (r : ℕ) → r < mostRules → bitAnd x (getD S r 0) < 2 ^ mostStates
-  unfolding ruleMask
-  small r h = omega (arith, and-le-r x (getD S r 0), ms r h, encode-lt (λ k. eqb (stateOf b k .rule) r && isOf p₁ f₁ (stateOf b k)) mostStates)
-
-  inside : (r k : ℕ) → tested r k ≡ true → k < length (b .states)
-  unfolding tested
-  inside r k e = by (decLt k (length (b .states)))
-    where
-      by : Dec (k < length (b .states)) → k < length (b .states)
-      by (yes l) = l
-      by (no l) = absurd (B.false≢true (sym (ap (λ (p : Bool). p && member x k) (none-rule b p₁ f₁ r k (omega arith))) ∙ e))
-
-  meets : (r : ℕ) → r < mostRules → not (eqb (bitAnd x (getD S r 0)) 0) ≡ someState b (tested r)
-  meets r h = same-test _ _ (some, other)
-    where
-      m : ℕ
-      m = bitAnd x (getD S r 0)
-
-      some : T (not (eqb m 0)) → T (someState b (tested r))
-      some t =
-          let k = trailingZeros mostStates m in
-          let n : m ≡ 0 → ⊥ = λ q. T-not (eqb m 0) t (subst T (sym (eq-eqb m 0 q)) tt) in
-          let e : tested r k ≡ true = sym (both r k h) ∙ lowest mostStates m (omega (arith, n)) (small r h) .is-in in
-          any-up (tested r) 0 (length (b .states)) .1 (k, zero-le, omega (arith, inside r k e), subst T (sym e) tt)
-
-      other : T (someState b (tested r)) → T (not (eqb m 0))
-      other t =
-          let z = any-up (tested r) 0 (length (b .states)) .0 t in
-          not-T (eqb m 0) (λ q. subst T (sym (both r (z .0) h) ∙ ap (λ (y : ℕ). member y (z .0)) (eqb→eq m 0 q) ∙ member-none (z .0)) (z .3))
+  meets-tested : (r : ℕ) → r < mostRules → not (eqb (bitAnd x (getD S r 0)) 0) ≡ someState b (tested r)
+  unfolding tested ruleMask
+  meets-tested r h =
+      ap (λ (y : ℕ). not (eqb (bitAnd x y) 0)) (ms r h) ∙ meets b o (λ s. eqb (stateOf b s .rule) r && isOf p₁ f₁ (stateOf b s)) (none-rule b p₁ f₁ r) x
 
   K : ℕ → Bool
   K r = someState b (tested r)
@@ -209,32 +134,13 @@ module _ (b : Book) (o : Sound b) (p₁ f₁ p₂ f₂ : ℕ) (x : ℕ) (S A : L
   gather-below zero s h =
       member-none s ∙ ap (λ (t : Bool). t && (isOf p₂ f₂ (stateOf b s) && K (stateOf b s .rule))) (sym (le-ltb (stateOf b s .rule) 0 (omega arith)))
   gather-below (suc n) s h =
+      let r = stateOf b s .rule in let E = isOf p₂ f₂ (stateOf b s) in
       member-or (gather n x S A) (joins x (getD S n 0) (getD A n 0)) s
       ∙ ap₂ (λ (p q : Bool). p || q) (gather-below n s (omega arith))
       (member-joins (eqb (bitAnd x (getD S n 0)) 0) (getD A n 0) s
-      ∙ ap₂ (λ (p q : Bool). p && q) (meets n (omega arith)) (ap (λ (y : ℕ). member y s) (ma n (omega arith)) ∙ member-rule b o p₂ f₂ n s))
-      ∙ go (ℕ-discrete (stateOf b s .rule) n)
-    where
-      r : ℕ
-      r = stateOf b s .rule
-
-      E : Bool
-      E = isOf p₂ f₂ (stateOf b s)
-
-      still : Dec (r < n) → (r ≢ n) → ltb r n ≡ ltb r (suc n)
-      still (yes l) g = lt-ltb _ _ l ∙ sym (lt-ltb r (suc n) (omega arith))
-      still (no l) g = le-ltb r n (omega arith) ∙ sym (le-ltb r (suc n) (omega (arith, g)))
-
-      go : Dec (r ≡ n) → ((ltb r n && (E && K r)) || (K n && (eqb r n && E))) ≡ (ltb r (suc n) && (E && K r))
-      go (yes e) =
-          ap₂ (λ (t u : Bool). (t && (E && K r)) || (K n && (u && E))) (le-ltb r n (omega arith)) (eq-eqb _ _ e)
-          ∙ ap (λ (j : ℕ). (false && (E && K r)) || (K j && (true && E))) (sym e)
-          ∙ join-same (K r) E
-          ∙ ap (λ (t : Bool). t && (E && K r)) (sym (lt-ltb r (suc n) (omega arith)))
-      go (no g) =
-          ap (λ (u : Bool). (ltb r n && (E && K r)) || (K n && (u && E))) (ne-eqb _ _ g)
-          ∙ join-other (ltb r n && (E && K r)) (K n) E
-          ∙ ap (λ (t : Bool). t && (E && K r)) (still (decLt r n) g)
+      ∙ ap₂ (λ (p q : Bool). p && q) (meets-tested n (omega arith)) (ap (λ (y : ℕ). member y s) (ma n (omega arith)) ∙ member-rule b o p₂ f₂ n s)
+      ∙ at-rule r n E K)
+      ∙ sym (below-more r n (E && K r))
 
   rule-small : (s : ℕ) → Dec (s < length (b .states)) → stateOf b s .rule < mostRules
   rule-small s (yes l) = omega (arith, o .rule s l, o .rules)
@@ -277,25 +183,14 @@ pub left-first : (b : Book) → Sound b → allMask 0 1 (b .states) ≡ leftFirs
 unfolding leftFirst
 left-first b o = ext _ _ (λ s. member-all b o 0 1 s ∙ sym (member-of b o (starts b 0) (λ k h. none-of b 0 1 k h) s))
 
-pub focus-first : (b : Book) (L R : ℕ) (S A : List ℕ) → Sound b → EachMask 0 2 (b .states) S → EachMask 1 1 (b .states) A → bitAnd (gather mostRules L S A) R ≡ focusFirst b L R
-unfolding focusFirst isAccept
-focus-first b L R S A o ms ma =
-    ext _ _ (λ s. member-and (gather mostRules L S A) R s
-    ∙ ap (λ (p : Bool). p && member R s) (member-gather b o 0 2 1 1 L S A ms ma s)
-    ∙ sym (member-of b o (λ k. (starts b 1 k && K′ k) && member R k) (λ k h. ap (λ (p : Bool). (p && K′ k) && member R k) (none-of b 1 1 k h)) s))
-  where
-    K′ : ℕ → Bool
-    K′ k = someState b (λ (p : ℕ). isAccept b (stateOf b k .rule) 0 p && member L p)
-
 -- an arc read forwards is itself
 forwards : (arcs : List Arc) → map (turned 1 4) arcs ≡ arcs
 unfolding turned
 forwards [] = refl
 forwards (x ∷ arcs) = ap (λ (l : List Arc). x ∷ l) (forwards arcs)
 
-pub focus-pruned : (b : Book) (F a R : ℕ) → Sound b → bitAnd (stepFold (b .arcs) F a) R ≡ focusNext b F a R
-unfolding focusNext stepArcs
-focus-pruned b F a R o =
-    ext _ _ (λ s. member-and (stepFold (b .arcs) F a) R s
-    ∙ ap (λ (p : Bool). p && member R s) (ap (λ (l : List Arc). member (stepFold l F a) s) (sym (forwards (b .arcs))) ∙ member-into b F a s)
-    ∙ sym (member-of b o (λ k. intoBy b F a k && member R k) (λ k h. ap (λ (p : Bool). p && member R k) (into-past b F a k o h)) s))
+pub step-is : (b : Book) (F a : ℕ) → Sound b → stepFold (b .arcs) F a ≡ focusStep b F a
+unfolding focusStep stepArcs
+step-is b F a o =
+    ext _ _ (λ s. ap (λ (l : List Arc). member (stepFold l F a) s) (sym (forwards (b .arcs))) ∙ member-into b F a s
+    ∙ sym (member-of b o (intoBy b F a) (λ k h. into-past b F a k o h) s))

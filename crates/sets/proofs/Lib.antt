@@ -1,4 +1,5 @@
 pub mod Folds
+pub mod Masks
 pub mod Sweep
 pub mod Rows
 pub mod Closing
@@ -10,7 +11,6 @@ pub mod Parts
 pub mod WaysOut
 pub mod Counts
 pub mod Tables
-pub mod Lengths
 pub mod Claims
 pub mod One
 pub mod Runs

@@ -2,26 +2,34 @@
 -- that decide where a rule applies. For every sound book, which every accepted book is, and every tape. Assumes nothing.
 use Prim.Native.Nat.{ℕ, suc, _+_, _≤_, _<_}
 use mathlib.Core.List.{List, [], _∷_, _++_, append-assoc}
-use mathlib.Core.Bool.{Bool, _&&_}
-use mathlib.Core.Path.{_≡_, refl, subst, subst₂, sym, ap, _∙_}
+use mathlib.Core.Bool.{Bool, false, cond, not, _&&_, _||_}
+use mathlib.Core.Bool as B
+use mathlib.Core.Path.{_≡_, refl, subst, subst₂, sym, ap, ap₂, _∙_}
 use mathlib.Core.Logic.{_↔_, _⊎_, inl, inr, ⊎-elim}
 use native.Mathlib.Omega.{arith}
-use lib.Dec.{T}
+use native.Mathlib.Decide.{decLt}
+use borrow.Author.Tests.{lt-ltb, le-ltb}
+use lib.Dec.{T, eqb, ltb}
+use lib.Bits.{bitAnd, bitOr}
 use lib.ListN.{length, getD, take, drop, length-take, length-drop}
 use lib.Seq.{slice, slice-empty, take-suc, drop-cons, drop-length, drop-drop}
 use Rattle.book.specs.Reading.{Book}
-use Rattle.book.specs.Language.{leads, stateOf, starts, ends, accepts, someEnd, someFront, rules}
+use Rattle.book.specs.Language.{leads, stateOf, isOf, starts, ends, isStart, isAccept, accepts, someEnd, someFront, rules}
+use Rattle.book.specs.Outline.{ruleMask, allMask}
 use Rattle.book.specs.StateSets.{member}
 use Rattle.book.specs.Sound.{Sound}
-use Rattle.book.proofs.Bits.{member-none}
-use Rattle.book.proofs.Tests.{Cut, cut-eq, and-both, and-left, and-right, same-test}
-use Rattle.sets.specs.Sets.{leftFirst, leftNext, rightLast, rightPrev, after, before, leftAt, rightAt}
-use Rattle.sets.specs.Focus.{meetsAccept, meetsStart, focusFirst, focusNext, pruned, focusAt}
+use Rattle.book.proofs.Bits.{member-none, member-and, member-or, ext}
+use Rattle.book.proofs.Tests.{Cut, cut-eq, and-both, and-left, and-right, same-test, any-up}
+use Rattle.sets.specs.Sets.{setOf, intoBy, leftFirst, leftNext, rightLast, rightPrev, after, before, leftAt, rightAt}
+use Rattle.sets.specs.Focus.{meetsAccept, meetsStart, mayStart, focusFirst, openedBy, openedBelow, focusStep, focusNext, pruned, focusAt}
 use Rattle.sets.proofs.Runs as Runs
 use Rattle.sets.proofs.Runs.{Start, Accept, Run, LeftHolds, RightHolds, Applies, LeftRun, RightRun, FocusRun, Later, run-rule, run-part}
 use Rattle.sets.proofs.Bridge.{machine, book-stays, starts-in, starts-out, ends-in, ends-out, leads-in, leads-out, left-iff, right-iff, applies-iff}
 use Rattle.sets.proofs.Slices.{take-cut, slice-cut, slice-join, slice-snoc, cut-front, cut-rest, cut-length, slice-take}
-use Rattle.sets.proofs.Steps.{In, first-law, next-law, last-law, prev-law, meets-accept, meets-start, focus-first-law, focus-next-law}
+use Rattle.sets.proofs.Masks as Masks
+use Rattle.sets.proofs.Masks.{none-of, none-rule, member-rule, member-of, none-both, meets, member-joins, at-rule}
+use Rattle.sets.proofs.Closing.{into-past}
+use Rattle.sets.proofs.Steps.{In, set-law, into-law, first-law, next-law, last-law, prev-law, meets-accept, meets-start, focus-first-law, focus-next-law}
 
 -- ---- how the sets are found
 
@@ -314,3 +322,101 @@ module _ (b : Book) (h : Sound b) (t : List ℕ) where
           omega arith,
           applies-iff b (y .rule) (take i t) (slice i k t) (drop k t) .1 (subst₂ (λ (f w : List ℕ). Applies (machine b) (take i t) f w (y .rule)) e₁ e₂ (y .applies)),
         )
+
+-- ---- the tests by masks, and the walk rule by rule and step by step
+
+module _ (b : Book) (o : Sound b) where
+  -- a set meets a rule's accept or start states of a part exactly if it has something in common with their mask
+  pub accept-mask : (r part X : ℕ) → meetsAccept b r part X ≡ not (eqb (bitAnd X (ruleMask part 2 (b .states) r)) 0)
+  unfolding isAccept ruleMask
+  accept-mask r part X = sym (meets b o (λ s. eqb (stateOf b s .rule) r && isOf part 2 (stateOf b s)) (none-rule b part 2 r) X)
+
+  pub start-mask : (r part X : ℕ) → meetsStart b r part X ≡ not (eqb (bitAnd X (ruleMask part 1 (b .states) r)) 0)
+  unfolding isStart ruleMask
+  start-mask r part X = sym (meets b o (λ s. eqb (stateOf b s .rule) r && isOf part 1 (stateOf b s)) (none-rule b part 1 r) X)
+
+  is-false : (c : Bool) → (T c → ⊥) → c ≡ false
+  is-false c h = same-test c false (λ t. absurd (h t), λ t. absurd t)
+
+  -- a set that holds no accept state of a part meets those of no rule
+  pub accept-none : (r part X : ℕ) → bitAnd X (allMask part 2 (b .states)) ≡ 0 → meetsAccept b r part X ≡ false
+  unfolding allMask isAccept
+  accept-none r part X e = is-false (meetsAccept b r part X) (λ t.
+      let z = any-up (λ (s : ℕ). isAccept b r part s && member X s) 0 (length (b .states)) .0 t in
+      let s = z .0 in
+      let R = eqb (stateOf b s .rule) r in let A = isOf part 2 (stateOf b s) in
+      subst T (none-both b o (λ k. isOf part 2 (stateOf b k)) (none-of b part 2) X e s)
+          (and-both A (member X s) (and-right R A (and-left (R && A) (member X s) (z .3))) (and-right (R && A) (member X s) (z .3))))
+
+  module _ (L : ℕ) where
+    no-start : (s : ℕ) → length (b .states) ≤ s → mayStart b L s ≡ false
+    no-start s h = ap (λ (c : Bool). c && meetsAccept b (stateOf b s .rule) 0 L) (none-of b 1 1 s h)
+
+    no-start-with : (c : Bool) (s : ℕ) → length (b .states) ≤ s → (c && mayStart b L s) ≡ false
+    no-start-with c s h = ap (λ (d : Bool). c && d) (no-start s h) ∙ B.and-false c
+
+    -- where the right set holds no focus start nothing starts
+    pub first-none : (R : ℕ) → bitAnd R (allMask 1 1 (b .states)) ≡ 0 → focusFirst b L R ≡ 0
+    unfolding focusFirst allMask
+    first-none R e = ext _ _ (λ s.
+        member-of b o (λ k. mayStart b L k && member R k) (λ k h. ap (λ (c : Bool). c && member R k) (no-start k h)) s ∙ none s ∙ sym (member-none s))
+      where
+        none : (s : ℕ) → (mayStart b L s && member R s) ≡ false
+        none s = is-false (mayStart b L s && member R s) (λ t.
+            let S = starts b 1 s in let K = meetsAccept b (stateOf b s .rule) 0 L in
+            subst T (none-both b o (λ k. isOf 1 1 (stateOf b k)) (none-of b 1 1) R e s)
+                (and-both S (member R s) (and-left S K (and-left (S && K) (member R s) t)) (and-right (S && K) (member R s) t)))
+
+    -- what a rule gives: its focus starts, where the left set meets its left accepts
+    pub opened-mask : (r : ℕ) → openedBy b L r ≡ cond (eqb (bitAnd L (ruleMask 0 2 (b .states) r)) 0) 0 (ruleMask 1 1 (b .states) r)
+    unfolding openedBy
+    opened-mask r = ext _ _ (λ s.
+        member-of b o (λ k. eqb (stateOf b k .rule) r && mayStart b L k) (λ k h. no-start-with (eqb (stateOf b k .rule) r) k h) s
+        ∙ sym (member-joins (eqb (bitAnd L (ruleMask 0 2 (b .states) r)) 0) (ruleMask 1 1 (b .states) r) s
+        ∙ ap₂ (λ (c d : Bool). c && d) (sym (accept-mask r 0 L)) (member-rule b o 1 1 r s)
+        ∙ at-rule (stateOf b s .rule) r (starts b 1 s) (λ k. meetsAccept b k 0 L)))
+
+    below : (n s : ℕ) → member (openedBelow b L n) s ≡ (ltb (stateOf b s .rule) n && mayStart b L s)
+    unfolding openedBelow
+    below n s = member-of b o (λ k. ltb (stateOf b k .rule) n && mayStart b L k) (λ k h. no-start-with (ltb (stateOf b k .rule) n) k h) s
+
+    -- no rule, and one rule more
+    pub below-none : openedBelow b L 0 ≡ 0
+    below-none = ext _ _ (λ s.
+        below 0 s ∙ ap (λ (c : Bool). c && mayStart b L s) (le-ltb (stateOf b s .rule) 0 (omega arith)) ∙ sym (member-none s))
+
+    pub below-more : (n : ℕ) → openedBelow b L (suc n) ≡ bitOr (openedBelow b L n) (openedBy b L n)
+    unfolding openedBy
+    below-more n = ext _ _ (λ s.
+        below (suc n) s ∙ Masks.below-more (stateOf b s .rule) n (mayStart b L s)
+        ∙ sym (member-or (openedBelow b L n) (openedBy b L n) s
+        ∙ ap₂ (λ (c d : Bool). c || d) (below n s)
+            (member-of b o (λ k. eqb (stateOf b k .rule) n && mayStart b L k) (λ k h. no-start-with (eqb (stateOf b k .rule) n) k h) s)))
+
+    -- what all rules give, cut to the right set
+    pub below-all : (n R : ℕ) → length (b .words) ≤ n → bitAnd (openedBelow b L n) R ≡ focusFirst b L R
+    unfolding focusFirst
+    below-all n R h = ext _ _ (λ s.
+        member-and (openedBelow b L n) R s
+        ∙ ap (λ (c : Bool). c && member R s) (below n s ∙ every s (decLt s (length (b .states))))
+        ∙ sym (member-of b o (λ k. mayStart b L k && member R k) (λ k g. ap (λ (c : Bool). c && member R k) (no-start k g)) s))
+      where
+        every : (s : ℕ) → Dec (s < length (b .states)) → (ltb (stateOf b s .rule) n && mayStart b L s) ≡ mayStart b L s
+        every s (yes l) = ap (λ (c : Bool). c && mayStart b L s) (lt-ltb (stateOf b s .rule) n (omega (arith, o .rule s l)))
+        every s (no l) = no-start-with (ltb (stateOf b s .rule) n) s (omega arith) ∙ sym (no-start s (omega arith))
+
+  -- the step, cut to the right set, is the next set
+  pub step-pruned : (F a R : ℕ) → bitAnd (focusStep b F a) R ≡ focusNext b F a R
+  unfolding focusStep focusNext
+  step-pruned F a R = ext _ _ (λ s.
+      member-and (setOf b (intoBy b F a)) R s
+      ∙ ap (λ (c : Bool). c && member R s) (member-of b o (intoBy b F a) (λ k h. into-past b F a k o h) s)
+      ∙ sym (member-of b o (λ k. intoBy b F a k && member R k) (λ k h. ap (λ (c : Bool). c && member R k) (into-past b F a k o h)) s))
+
+-- nothing leads on from nothing
+pub step-none : (b : Book) (a : ℕ) → focusStep b 0 a ≡ 0
+unfolding focusStep
+step-none b a = ext _ _ (λ s. same-test _ _ (
+  λ t. absurd (let z = into-law b 0 a s .0 (set-law b (intoBy b 0 a) s .0 t .1) in subst T (member-none (z .0)) (z .1)),
+  λ t. absurd (subst T (member-none s) t),
+))

@@ -1,17 +1,18 @@
--- A built workspace: what BUILD leaves with reply 0 are tables, and walking their rows gives the number of the set over a tape.
+-- A built workspace: what BUILD leaves with reply 0 are tables, walking their rows gives the number of the set over a tape, and the
+-- workspace keeps its length. Assumes nothing.
 use Prim.Native.Nat.{ℕ, _+_, _*_, _≤_, _<_}
 use mathlib.Core.Path.{_≡_, refl, sym, ap, _∙_, subst}
-use mathlib.Core.List.{List, _++_}
+use mathlib.Core.List.{List, [], _++_}
 use native.Mathlib.Omega.{arith}
-use lib.ListN.{length, getD, length-append, List·getD-append}
+use lib.ListN.{length, getD, drop, length-append, length-drop, List·getD-append}
 use lib.Seq.{getD-append-add}
 use Rattle.book.specs.Format.{symbolCount}
 use Rattle.book.specs.Reading.{bookOf}
 use Rattle.sets.specs.Sets.{leftFirst, leftNext, rightLast, rightPrev, after, before}
 use Rattle.sets.specs.Numbering.{mostSets, pairs, idx, pad}
-use Rattle.sets.specs.Workspace.{leftTable, rightTable, AfterBuild, stands, filled, buildDef}
-use Rattle.sets.specs.Tables.{leftCount, rightCount, leftEntry, rightEntry, leftSet, rightSet, Tables}
-use Rattle.sets.specs.Counting.{Tape, leftOver, rightOver}
+use Rattle.sets.specs.Workspace.{rowBytes, setWords, leftTable, rightTable, AfterBuild, stands, filled, buildDef}
+use Rattle.sets.specs.Tables.{leftCount, rightCount, leftEntry, rightEntry, leftSet, rightSet, Tape, Tables}
+use Rattle.sets.specs.Counting.{leftOver, rightOver}
 use Rattle.sets.specs.declared.Built.{Built}
 use Rattle.sets.proofs.Pad.{length-pad, getD-pad-all}
 use Rattle.sets.proofs.Idx.{idx-distinct}
@@ -119,3 +120,34 @@ module _ (book R S : List ℕ) (z : buildDef book R S .answer .reply ≡ 0) wher
       let k = before 0 (rightEntry (buildDef book R S .rows)) w in
       sym (idx-distinct (rightTable (bookOf book) .sets) k (law-distinct _ _) (p .0))
       ∙ ap (idx (rightTable (bookOf book) .sets)) (sym (right-place (buildDef book R S) (way book R S) z k (omega (arith, b .right-few, p .0))) ∙ p .1)
+
+-- ---- BUILD keeps the length of either piece of the workspace, for any book, rows and sets
+
+-- what stands at the front, as long as what stood there
+cleared-length : (n : ℕ) (l : List ℕ) → n ≤ length l → length (pad n [] ++ drop n l) ≡ length l
+cleared-length n l h = simp (length-append, length-drop) (omega (arith, length-pad n [] (omega arith)))
+
+filled-length : (n : ℕ) (P Q l : List ℕ) → length P ≤ n → length Q ≤ n → n + n ≤ length l → length (pad n P ++ (pad n Q ++ drop (n + n) l)) ≡ length l
+filled-length n P Q l hp hq h = simp (length-append, length-drop) (omega (arith, length-pad n P hp, length-pad n Q hq))
+
+module _ (book R S : List ℕ) where
+  rows-kept : (x : AfterBuild) → Way book R S x → length (x .rows) ≡ length R
+  rows-kept x (refused h e) = ap (λ (y : AfterBuild). length (y .rows)) e
+  rows-kept x (short h s e) = ap (λ (y : AfterBuild). length (y .rows)) e
+  rows-kept x (many-left o l e) = ap (λ (y : AfterBuild). length (y .rows)) e ∙ cleared-length rowBytes R (o .rows)
+  rows-kept x (many-right o l r e) = ap (λ (y : AfterBuild). length (y .rows)) e ∙ cleared-length rowBytes R (o .rows)
+  rows-kept x (built o l r e) = ap (λ (y : AfterBuild). length (y .rows)) e ∙ filled-length pairs _ _ R (left-width book R S l r) (right-width book R S l r) (o .rows)
+
+  sets-kept : (x : AfterBuild) → Way book R S x → length (x .sets) ≡ length S
+  unfolding leftCount rightCount
+  sets-kept x (refused h e) = ap (λ (y : AfterBuild). length (y .sets)) e
+  sets-kept x (short h s e) = ap (λ (y : AfterBuild). length (y .sets)) e
+  sets-kept x (many-left o l e) = ap (λ (y : AfterBuild). length (y .sets)) e ∙ cleared-length setWords S (o .sets)
+  sets-kept x (many-right o l r e) = ap (λ (y : AfterBuild). length (y .sets)) e ∙ cleared-length setWords S (o .sets)
+  sets-kept x (built o l r e) = ap (λ (y : AfterBuild). length (y .sets)) e ∙ filled-length mostSets _ _ S l r (o .sets)
+
+  pub build-rows : length (buildDef book R S .rows) ≡ length R
+  build-rows = rows-kept (buildDef book R S) (way book R S)
+
+  pub build-sets : length (buildDef book R S .sets) ≡ length S
+  build-sets = sets-kept (buildDef book R S) (way book R S)

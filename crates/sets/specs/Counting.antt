@@ -7,11 +7,7 @@ use lib.ListN.{length, getD}
 use Rattle.book.specs.Format.{symbolCount}
 use Rattle.book.specs.Reading.{Book}
 use Rattle.sets.specs.Sets.{leftFirst, leftNext, rightLast, rightPrev, after, before}
-
--- "symbols 0 to 15"
-abbrev pub Tape : List ℕ → Type 0
-Tape [] = Unit {0}
-Tape (a ∷ w) = (a < symbolCount) × Tape w
+use Rattle.sets.specs.Tables.{Tape}
 
 -- the left set after a tape, the right set before it
 abbrev pub leftOver : Book → List ℕ → ℕ

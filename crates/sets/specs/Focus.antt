@@ -3,6 +3,7 @@
 use Prim.Native.Nat.{ℕ}
 use mathlib.Core.List.{List, [], _∷_, _++_}
 use mathlib.Core.Bool.{Bool, _&&_}
+use lib.Dec.{eqb, ltb}
 use lib.ListN.{drop}
 use lib.Seq.{slice}
 use Rattle.book.specs.Reading.{Book}
@@ -17,9 +18,23 @@ meetsAccept b r part X = someState b (λ (s : ℕ). isAccept b r part s && membe
 abbrev pub meetsStart : Book → ℕ → ℕ → ℕ → Bool
 meetsStart b r part X = someState b (λ (s : ℕ). isStart b r part s && member X s)
 
--- the pruned walk: the focus starts of the rules whose left context holds (L), in the right set R; one step on
+-- the first set of the walk: the focus starts of the rules whose left context holds (L), those in the right set R
+abbrev pub mayStart : Book → ℕ → ℕ → Bool
+mayStart b L s = starts b 1 s && meetsAccept b (stateOf b s .rule) 0 L
+
 unfoldable pub focusFirst : Book → ℕ → ℕ → ℕ
-focusFirst b L R = setOf b (λ (s : ℕ). (starts b 1 s && meetsAccept b (stateOf b s .rule) 0 L) && member R s)
+focusFirst b L R = setOf b (λ (s : ℕ). mayStart b L s && member R s)
+
+-- before it is cut to R, rule by rule: what the rule r gives, and what the rules below n give
+unfoldable pub openedBy : Book → ℕ → ℕ → ℕ
+openedBy b L r = setOf b (λ (s : ℕ). eqb (stateOf b s .rule) r && mayStart b L s)
+
+unfoldable pub openedBelow : Book → ℕ → ℕ → ℕ
+openedBelow b L n = setOf b (λ (s : ℕ). ltb (stateOf b s .rule) n && mayStart b L s)
+
+-- one step on: the states that an arc from F leads to, and of these those in the right set R
+unfoldable pub focusStep : Book → ℕ → ℕ → ℕ
+focusStep b F a = setOf b (intoBy b F a)
 
 unfoldable pub focusNext : Book → ℕ → ℕ → ℕ → ℕ
 focusNext b F a R = setOf b (λ (s : ℕ). intoBy b F a s && member R s)

@@ -1,7 +1,7 @@
 -- A built workspace, said evenly for both sides: what a reader of the rows and the sets needs to know of BUILD, and nothing of how.
 use Prim.Native.Nat.{ℕ, _+_, _*_, _≤_, _<_}
 use mathlib.Core.Path.{_≡_}
-use mathlib.Core.List.{List}
+use mathlib.Core.List.{List, [], _∷_}
 use lib.ListN.{length, getD}
 use Rattle.book.specs.Format.{symbolCount}
 use Rattle.book.specs.Reading.{bookOf}
@@ -29,6 +29,11 @@ leftSet sets k = getD sets k 0
 
 abbrev pub rightSet : List ℕ → ℕ → ℕ
 rightSet sets k = getD sets (mostSets + k) 0
+
+-- "symbols 0 to 15": what a walk over the rows is made along
+abbrev pub Tape : List ℕ → Type 0
+Tape [] = Unit {0}
+Tape (a ∷ w) = (a < symbolCount) × Tape w
 
 pub record Tables (book rows sets : List ℕ) : Type 0 where
   pub rows-room : rowBytes ≤ length rows

@@ -10,9 +10,9 @@ ghost use lib.ListN.{length};
 ghost use Rattle.book.specs.Format.{byte, symbolCount, mostRules, mostStates};
 ghost use Rattle.book.specs.Reading.{arcAt, checkDef, bookOf};
 ghost use Rattle.book.specs.Language.{stateOf};
-ghost use Rattle.book.specs.Outline.{Placed, EachMask};
-ghost use Rattle.sets.specs.Focus.{focusFirst, focusNext};
-ghost use Rattle.sets.specs.Stepping.{hopFold, stepFold, isEnd, stepArcs, arcBytes, ArcStands, SweptAll, between, Added, Stepped, joins, gather, sideArcs, closeBy};
+ghost use Rattle.book.specs.Outline.{Placed};
+ghost use Rattle.sets.specs.Focus.{focusStep, focusNext};
+ghost use Rattle.sets.specs.Stepping.{hopFold, isEnd, stepArcs, arcBytes, ArcStands, SweptAll, between, Added, Stepped, joins, gather, sideArcs, closeBy};
 
 // Where an arc's record names its two states.
 const FROM: usize = 1;
@@ -71,7 +71,7 @@ fn sweep(book: &[u8], place: usize, state: usize, set: u64, symbol: u8) -> Swept
 pub fn focus_step(book: &[u8], places: &[u16; 64], set: u64, symbol: u8) -> u64
     requires { ⌜ checkDef (now book) .reply ≡ 0 ⌝ }
     requires { ⌜ Placed (bookOf (now book) .states) (now places) ⌝ }
-    ensures { λ r. ⌜ r ≡ stepFold (bookOf (now (book .entry)) .arcs) set symbol ⌝ }
+    ensures { λ r. ⌜ r ≡ focusStep (bookOf (now (book .entry))) set symbol ⌝ }
 {
     let mut left = set;
     let mut out: u64 = 0;
@@ -200,24 +200,6 @@ pub(crate) fn close(
         return near | gather(near, starts, ends);
     }
     lefts | step
-}
-
-// The focus states that may start where the left set and the right set meet: of each rule whose left accepts the left set meets, the
-// focus starts, those that the right set holds. Two masks a book are enough for every position of a tape, so they are lent, and `book`,
-// which CHECK accepted, says what they are masks of.
-pub fn focus_first(
-    book: &[u8],
-    left_accepts: &[u64; 16],
-    focus_starts: &[u64; 16],
-    left: u64,
-    right: u64,
-) -> u64
-    requires { ⌜ checkDef (now book) .reply ≡ 0 ⌝ }
-    requires { ⌜ EachMask 0 2 (bookOf (now book) .states) (now «left_accepts») ⌝ }
-    requires { ⌜ EachMask 1 1 (bookOf (now book) .states) (now «focus_starts») ⌝ }
-    ensures { λ r. ⌜ r ≡ focusFirst (bookOf (now (book .entry))) left right ⌝ }
-{
-    gather(left, left_accepts, focus_starts) & right
 }
 
 // The focus states one symbol on, those that the right set there holds. An arc is read only from a book that CHECK accepted; the places

@@ -1,65 +1,26 @@
--- The tests of the walk by masks: a set meets a mask exactly where some state of the book is in both. Assumes nothing.
-use Prim.Native.Nat.{ℕ, zero, suc, _+_, _-_, _≤_, _<_}
-use mathlib.Core.Path.{_≡_, refl, sym, ap, ap₂, _∙_, subst}
+-- The tests of the walk by masks: what the code finds at an end and at a start is what the sets mean, by the laws of set meaning. Assumes nothing.
+use Prim.Native.Nat.{ℕ, suc, _+_, _-_, _≤_, _<_}
+use mathlib.Core.Path.{_≡_, sym, ap, ap₂, _∙_}
 use mathlib.Core.Logic.{_≢_}
-use mathlib.Core.Bool.{Bool, true, false, cond, _&&_}
+use mathlib.Core.Bool.{Bool, true, false, cond, not, _&&_}
 use mathlib.Core.Bool as B
 use mathlib.Core.List.{List}
 use native.Mathlib.Omega.{arith}
-use native.Mathlib.Decide.{decLt}
 use native.Mathlib.Numerals.{add-one}
-use borrow.Author.Tests.{ne-eqb}
-use lib.Dec.{T, eqb}
-use lib.Bits.{bitAnd, bitOr, or-zero-r, and-le-r}
-use lib.Count.{trailingZeros}
-use lib.ListN.{length, getD, drop}
-use lib.Seq.{getD-drop}
-use Rattle.book.specs.Format.{mostRules, mostStates}
+use borrow.Author.Tests.{eq-eqb, ne-eqb}
+use lib.Dec.{eqb}
+use lib.Bits.{bitAnd, bitOr}
+use lib.ListN.{length, getD}
+use Rattle.book.specs.Format.{mostRules}
 use Rattle.book.specs.Reading.{Book}
-use Rattle.book.specs.Language.{upFrom, rules, stateOf, isOf, starts, isStart, isAccept, someState}
-use Rattle.book.specs.StateSets.{member, encode}
-use Rattle.book.specs.Sound.{Sound}
-use Rattle.book.specs.Outline.{ruleMask, allMask}
-use Rattle.book.proofs.Bits.{member-and, member-none, encode-lt, ext, lowest}
-use Rattle.book.proofs.Tests.{and-both, and-left, and-right, same-test, any-up}
-use Rattle.sets.specs.Sets.{setOf}
-use Rattle.sets.specs.Focus.{meetsAccept, meetsStart, focusFirst}
-use Rattle.sets.specs.Stepping.{joins, gather}
-use Rattle.sets.proofs.Closing.{member-set, none-of, none-rule, focus-first}
-use Rattle.sets.proofs.Steps.{set-law}
+use Rattle.book.specs.Language.{upFrom}
+use Rattle.sets.specs.Focus.{meetsAccept, meetsStart, focusFirst, openedBy, openedBelow}
+use Rattle.sets.proofs.Meaning as Meaning
+use Rattle.sets.proofs.Meaning.{accept-mask, start-mask, accept-none, opened-mask, below-none, below-more, below-all}
 use Rattle.stretches.specs.Candidates.{firstOf}
 use Rattle.stretches.specs.Ready.{leftAccepts, focusStarts, focusAccepts, rightStarts, allStarts, allAccepts, Tests}
 use Rattle.stretches.specs.Position.{hits, noRule, hitRule}
 use Rattle.stretches.proofs.First.{first-none}
-
-is-false : (c : Bool) → (T c → ⊥) → c ≡ false
-is-false c h = same-test c false (λ t. absurd (h t), λ t. absurd t)
-
--- the set X and the mask of the states that pass f
-module _ (b : Book) (o : Sound b) (f : ℕ → Bool) (past : (s : ℕ) → length (b .states) ≤ s → f s ≡ false) (X : ℕ) where
-  in-both : (s : ℕ) → member (bitAnd X (encode f mostStates)) s ≡ (f s && member X s)
-  in-both s =
-      member-and X (encode f mostStates) s
-      ∙ ap (λ (c : Bool). member X s && c) (member-set f mostStates (λ k h. past k (omega (arith, o .states))) s)
-      ∙ B.and-comm (member X s) (f s)
-
-  none-both : bitAnd X (encode f mostStates) ≡ 0 → (s : ℕ) → (f s && member X s) ≡ false
-  none-both e s = sym (in-both s) ∙ ap (λ (n : ℕ). member n s) e ∙ member-none s
-
-  meets-none : bitAnd X (encode f mostStates) ≡ 0 → someState b (λ (s : ℕ). f s && member X s) ≡ false
-  meets-none e = is-false (someState b (λ (s : ℕ). f s && member X s))
-      (λ t. let z = any-up (λ (s : ℕ). f s && member X s) 0 (length (b .states)) .0 t in subst T (none-both e (z .0)) (z .3))
-
-  meets-some : bitAnd X (encode f mostStates) ≢ 0 → someState b (λ (s : ℕ). f s && member X s) ≡ true
-  meets-some e =
-      let m = bitAnd X (encode f mostStates) in
-      let k = trailingZeros mostStates m in
-      let l = lowest mostStates m (omega (arith, e)) (omega (arith, and-le-r X (encode f mostStates), encode-lt f mostStates)) in
-      inside k (sym (in-both k) ∙ l .is-in) (decLt k (length (b .states)))
-    where
-      inside : (k : ℕ) → (f k && member X k) ≡ true → Dec (k < length (b .states)) → someState b (λ (s : ℕ). f s && member X s) ≡ true
-      inside k t (yes h) = same-test (someState b (λ (s : ℕ). f s && member X s)) true (λ x. tt, λ x. any-up (λ (s : ℕ). f s && member X s) 0 (length (b .states)) .1 (k, omega arith, omega arith, subst T (sym t) tt))
-      inside k t (no h) = absurd (B.false≢true (sym (ap (λ (c : Bool). c && member X k) (past k (omega arith))) ∙ t))
 
 module _ (b : Book) (n : ℕ) (masks : List ℕ) (m : Tests b n masks) where
   few : n ≤ mostRules
@@ -70,50 +31,28 @@ module _ (b : Book) (n : ℕ) (masks : List ℕ) (m : Tests b n masks) where
     low : r < mostRules
     low = omega (arith, few)
 
-    accepting : bitAnd X (getD masks (focusAccepts r) 0) ≡ bitAnd X (encode (isAccept b r 1) mostStates)
-    unfolding ruleMask isAccept
-    accepting = ap (bitAnd X) (m .accepts r low)
+    accepting : meetsAccept b r 1 X ≡ not (eqb (bitAnd X (getD masks (focusAccepts r) 0)) 0)
+    accepting = accept-mask b (m .sound) r 1 X ∙ ap (λ (y : ℕ). not (eqb (bitAnd X y) 0)) (sym (m .accepts r low))
 
-    starting : bitAnd R (getD masks (rightStarts r) 0) ≡ bitAnd R (encode (isStart b r 2) mostStates)
-    unfolding ruleMask isStart
-    starting = ap (bitAnd R) (m .starts r low)
-
-    past-accept : (s : ℕ) → length (b .states) ≤ s → isAccept b r 1 s ≡ false
-    unfolding isAccept
-    past-accept s h = none-rule b 1 2 r s h
-
-    past-start : (s : ℕ) → length (b .states) ≤ s → isStart b r 2 s ≡ false
-    unfolding isStart
-    past-start s h = none-rule b 2 1 r s h
+    starting : meetsStart b r 2 R ≡ not (eqb (bitAnd R (getD masks (rightStarts r) 0)) 0)
+    starting = start-mask b (m .sound) r 2 R ∙ ap (λ (y : ℕ). not (eqb (bitAnd R y) 0)) (sym (m .starts r low))
 
     pub miss-focus : bitAnd X (getD masks (focusAccepts r) 0) ≡ 0 → false ≡ hits b X R r
     unfolding hits
-    miss-focus e = sym (ap (λ (c : Bool). c && meetsStart b r 2 R) (meets-none b (m .sound) (isAccept b r 1) past-accept X (sym accepting ∙ e)))
+    miss-focus e = rw (accepting, eq-eqb _ _ e)
 
     pub miss-right : bitAnd R (getD masks (rightStarts r) 0) ≡ 0 → false ≡ hits b X R r
     unfolding hits
-    miss-right e =
-        sym (ap (λ (c : Bool). meetsAccept b r 1 X && c) (meets-none b (m .sound) (isStart b r 2) past-start R (sym starting ∙ e)) ∙ B.and-false (meetsAccept b r 1 X))
+    miss-right e = rw (starting, eq-eqb _ _ e) (sym (B.and-false (meetsAccept b r 1 X)))
 
     pub hit-both : bitAnd X (getD masks (focusAccepts r) 0) ≢ 0 → bitAnd R (getD masks (rightStarts r) 0) ≢ 0 → true ≡ hits b X R r
     unfolding hits
-    hit-both e f =
-        sym (ap₂ (λ (c d : Bool). c && d) (meets-some b (m .sound) (isAccept b r 1) past-accept X (λ z. e (accepting ∙ z))) (meets-some b (m .sound) (isStart b r 2) past-start R (λ z. f (starting ∙ z))))
+    hit-both e f = rw (accepting, starting, ne-eqb _ _ e, ne-eqb _ _ f)
 
   -- no rule at an end: the set holds no focus accept at all
   pub none-hits : (X R : ℕ) → bitAnd X (getD masks allAccepts 0) ≡ 0 → (r : ℕ) → hits b X R r ≡ false
-  unfolding hits allMask isAccept
-  none-hits X R e r = ap (λ (c : Bool). c && meetsStart b r 2 R) no-one
-    where
-      none : (s : ℕ) → (isOf 1 2 (stateOf b s) && member X s) ≡ false
-      none = none-both b (m .sound) (λ s. isOf 1 2 (stateOf b s)) (none-of b 1 2) X (sym (ap (bitAnd X) (m .any-accept)) ∙ e)
-
-      no-one : meetsAccept b r 1 X ≡ false
-      no-one = is-false (meetsAccept b r 1 X) (λ t.
-          let z = any-up (λ (s : ℕ). isAccept b r 1 s && member X s) 0 (length (b .states)) .0 t in
-          let s = z .0 in
-          let E = eqb (stateOf b s .rule) r in let A = isOf 1 2 (stateOf b s) in
-          subst T (none s) (and-both A (member X s) (and-right E A (and-left (E && A) (member X s) (z .3))) (and-right (E && A) (member X s) (z .3))))
+  unfolding hits
+  none-hits X R e r = ap (λ (c : Bool). c && meetsStart b r 2 R) (accept-none b (m .sound) r 1 X (sym (ap (bitAnd X) (m .any-accept)) ∙ e))
 
   pub miss-all : (X R : ℕ) → bitAnd X (getD masks allAccepts 0) ≡ 0 → noRule ≡ hitRule b X R
   unfolding hitRule
@@ -121,70 +60,29 @@ module _ (b : Book) (n : ℕ) (masks : List ℕ) (m : Tests b n masks) where
 
   -- nothing starts: the right set holds no focus start at all
   pub none-first : (L R : ℕ) → bitAnd R (getD masks allStarts 0) ≡ 0 → 0 ≡ focusFirst b L R
-  unfolding focusFirst allMask
-  none-first L R e = ext 0 (setOf b f) (λ s. member-none s ∙ sym (is-false (member (setOf b f) s) (λ t.
-      let k = set-law b f s .0 t .1 in
-      let S = starts b 1 s in let K = meetsAccept b (stateOf b s .rule) 0 L in
-      subst T (none s) (and-both S (member R s) (and-left S K (and-left (S && K) (member R s) k)) (and-right (S && K) (member R s) k)))))
-    where
-      f : ℕ → Bool
-      f s = (starts b 1 s && meetsAccept b (stateOf b s .rule) 0 L) && member R s
+  none-first L R e = sym (Meaning.first-none b (m .sound) L R (sym (ap (bitAnd R) (m .any-first)) ∙ e))
 
-      none : (s : ℕ) → (isOf 1 1 (stateOf b s) && member R s) ≡ false
-      none = none-both b (m .sound) (λ s. isOf 1 1 (stateOf b s)) (none-of b 1 1) R (sym (ap (bitAnd R) (m .any-first)) ∙ e)
+  -- what one rule opens, by its masks
+  module _ (L r : ℕ) (known : r < n) where
+    opening : openedBy b L r ≡ cond (eqb (bitAnd L (getD masks (leftAccepts r) 0)) 0) 0 (getD masks (focusStarts r) 0)
+    opening =
+        let low : r < mostRules = omega (arith, few) in
+        opened-mask b (m .sound) L r ∙ sym (ap₂ (λ (x y : ℕ). cond (eqb (bitAnd L x) 0) 0 y) (m .lefts r low) (m .firsts r low))
 
-  -- the rules that there are not give nothing
-  mask-none : (r : ℕ) → n ≤ r → ruleMask 1 1 (b .states) r ≡ 0
-  unfolding ruleMask
-  mask-none r h = ext (encode f mostStates) 0 (λ s. member-set f mostStates (λ k l. none k) s ∙ none s ∙ sym (member-none s))
-    where
-      f : ℕ → Bool
-      f s = eqb (stateOf b s .rule) r && isOf 1 1 (stateOf b s)
+    pub open-not : bitAnd L (getD masks (leftAccepts r) 0) ≡ 0 → 0 ≡ openedBy b L r
+    open-not e = rw (opening, eq-eqb _ _ e)
 
-      none : (s : ℕ) → f s ≡ false
-      none s = go (decLt s (length (b .states)))
-        where
-          go : Dec (s < length (b .states)) → f s ≡ false
-          go (yes l) = ap (λ (c : Bool). c && isOf 1 1 (stateOf b s)) (ne-eqb (stateOf b s .rule) r (λ e. omega (arith, m .sound .rule s l, m .many)))
-          go (no l) = none-rule b 1 1 r s (omega arith)
+    pub open-own : bitAnd L (getD masks (leftAccepts r) 0) ≢ 0 → getD masks (focusStarts r) 0 ≡ openedBy b L r
+    open-own e = rw (opening, ne-eqb _ _ e)
 
-  joins-none : (L t g : ℕ) → g ≡ 0 → joins L t g ≡ 0
-  joins-none L t g e = ap (λ (x : ℕ). cond (eqb (bitAnd L t) 0) 0 x) e ∙ same (eqb (bitAnd L t) 0)
-    where
-      same : (c : Bool) → _≡_ {A = ℕ} (cond c 0 0) 0
-      same true = refl
-      same false = refl
+  pub open-start : (L : ℕ) → (0 ≤ n) × (0 ≡ openedBelow b L 0)
+  open-start L = (omega arith, sym (below-none b (m .sound) L))
 
-  -- what the first r rules open, as the loop gathers it
-  abbrev pub openings : ℕ → ℕ → ℕ
-  openings L r = gather r L masks (drop 16 masks)
+  pub open-turn : (L r out x : ℕ) → (r ≤ n) × (out ≡ openedBelow b L r) → r < n → x ≡ openedBy b L r → (r + 1 ≤ n) × (bitOr out x ≡ openedBelow b L (r + 1))
+  open-turn L r out x was h e = (omega arith, rw add-one (ap₂ bitOr (was .1) e ∙ sym (below-more b (m .sound) L r)))
 
-  open-none : (L : ℕ) → 0 ≡ openings L 0
-  unfolding gather
-  open-none L = refl
-
-  open-more : (L r : ℕ) → openings L (suc r) ≡ bitOr (openings L r) (joins L (getD masks (leftAccepts r) 0) (getD masks (focusStarts r) 0))
-  unfolding gather
-  open-more L r = ap (λ (g : ℕ). bitOr (openings L r) (joins L (getD masks r 0) g)) (getD-drop 16 masks r 0)
-
-  open-rest : (L k r : ℕ) → r + k ≡ mostRules → n ≤ r → openings L mostRules ≡ openings L r
-  open-rest L zero r e h = ap (openings L) (omega arith)
-  open-rest L (suc k) r e h =
-      open-rest L k (suc r) (omega arith) (omega arith) ∙ open-more L r
-      ∙ ap (bitOr (openings L r)) (joins-none L (getD masks (leftAccepts r) 0) (getD masks (focusStarts r) 0) (m .firsts r (omega arith) ∙ mask-none r h))
-      ∙ or-zero-r (openings L r)
-
-  pub open-start : (L : ℕ) → (0 ≤ n) × (0 ≡ openings L 0)
-  open-start L = (omega arith, open-none L)
-
-  pub open-turn : (L r out x : ℕ) → (r ≤ n) × (out ≡ openings L r) → r < n → x ≡ joins L (getD masks (leftAccepts r) 0) (getD masks (focusStarts r) 0)
-      → (r + 1 ≤ n) × (bitOr out x ≡ openings L (r + 1))
-  open-turn L r out x was h e = (omega arith, rw add-one (ap₂ bitOr (was .1) e ∙ sym (open-more L r)))
-
-  pub open-end : (L R r out : ℕ) → (r ≤ n) × (out ≡ openings L r) → n ≤ r → bitAnd out R ≡ focusFirst b L R
-  open-end L R r out was h =
-      ap (λ (x : ℕ). bitAnd x R) (was .1 ∙ sym (open-rest L (mostRules - r) r (omega (arith, few, was .0)) h))
-      ∙ focus-first b L R masks (drop 16 masks) (m .sound) (m .lefts) (λ r l. getD-drop 16 masks r 0 ∙ m .firsts r l)
+  pub open-end : (L R r out : ℕ) → (r ≤ n) × (out ≡ openedBelow b L r) → n ≤ r → bitAnd out R ≡ focusFirst b L R
+  open-end L R r out was h = ap (λ (x : ℕ). bitAnd x R) (was .1) ∙ below-all b (m .sound) L r R (omega (arith, m .many))
 
 -- the lowest rule: the rest from here is the whole
 pub record Seeking (b : Book) (X R n r : ℕ) : Type 0 where

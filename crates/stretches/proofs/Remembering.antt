@@ -9,10 +9,9 @@ use lib.Bits.{bitAnd}
 use lib.ListN.{getD, set, replicate, length-set, length-replicate, getD-replicate}
 use lib.Seq.{getD-set-same, getD-set-other}
 use Rattle.book.specs.Reading.{Book, checkDef, bookOf}
-use Rattle.sets.specs.Focus.{focusNext}
-use Rattle.sets.specs.Stepping.{stepFold}
-use Rattle.sets.proofs.Folds.{step-none}
-use Rattle.sets.proofs.Closing.{focus-pruned}
+use Rattle.sets.specs.Focus.{focusStep, focusNext}
+use Rattle.sets.proofs.Meaning as Meaning
+use Rattle.sets.proofs.Meaning.{step-none}
 use Rattle.stretches.specs.Ready.{slotCount, afterStep, Remembers}
 use Rattle.stretches.proofs.Scans.{sound-of}
 
@@ -25,15 +24,15 @@ remembers-start b = record {
   steps-room = length-replicate {A = ℕ} (slotCount + slotCount) 0;
   symbols-room = length-replicate {A = ℕ} slotCount 0;
   step = λ k h. zero-at (slotCount + slotCount) (afterStep k) (omega arith)
-      ∙ sym (ap₂ (stepFold (b .arcs)) (zero-at (slotCount + slotCount) k (omega arith)) (zero-at slotCount k h) ∙ step-none 0 (b .arcs));
+      ∙ sym (ap₂ (focusStep b) (zero-at (slotCount + slotCount) k (omega arith)) (zero-at slotCount k h) ∙ step-none b 0);
 }
 
 -- a step of this set on this symbol is found
-pub remembers-seen : (b : Book) (S A : List ℕ) (k x a : ℕ) → Remembers b S A → k < slotCount → getD S k 0 ≡ x → getD A k 0 ≡ a → getD S (afterStep k) 0 ≡ stepFold (b .arcs) x a
-remembers-seen b S A k x a was h e f = was .step k h ∙ ap₂ (stepFold (b .arcs)) e f
+pub remembers-seen : (b : Book) (S A : List ℕ) (k x a : ℕ) → Remembers b S A → k < slotCount → getD S k 0 ≡ x → getD A k 0 ≡ a → getD S (afterStep k) 0 ≡ focusStep b x a
+remembers-seen b S A k x a was h e f = was .step k h ∙ ap₂ (focusStep b) e f
 
 -- one is put in its place
-module _ (b : Book) (S A : List ℕ) (k x a y : ℕ) (was : Remembers b S A) (h : k < slotCount) (e : y ≡ stepFold (b .arcs) x a) where
+module _ (b : Book) (S A : List ℕ) (k x a y : ℕ) (was : Remembers b S A) (h : k < slotCount) (e : y ≡ focusStep b x a) where
   pub remembers-put : Remembers b (set (set S k x) (afterStep k) y) (set A k a)
   remembers-put = record {
     steps-room = length-set (set S k x) (afterStep k) y ∙ length-set S k x ∙ was .steps-room;
@@ -45,17 +44,17 @@ module _ (b : Book) (S A : List ℕ) (k x a y : ℕ) (was : Remembers b S A) (h 
       before m l = getD-set-other (set S k x) (afterStep k) m y 0 (λ z. omega arith)
 
       one : (m : ℕ) → m < slotCount → Dec (m ≡ k)
-          → getD (set (set S k x) (afterStep k) y) (afterStep m) 0 ≡ stepFold (b .arcs) (getD (set (set S k x) (afterStep k) y) m 0) (getD (set A k a) m 0)
+          → getD (set (set S k x) (afterStep k) y) (afterStep m) 0 ≡ focusStep b (getD (set (set S k x) (afterStep k) y) m 0) (getD (set A k a) m 0)
       one m l (yes z) =
           rw z (getD-set-same (set S k x) (afterStep k) y 0 (omega (arith, was .steps-room, length-set S k x))
           ∙ e
-          ∙ sym (ap₂ (stepFold (b .arcs)) (before k h ∙ getD-set-same S k x 0 (omega (arith, was .steps-room))) (getD-set-same A k a 0 (omega (arith, was .symbols-room)))))
+          ∙ sym (ap₂ (focusStep b) (before k h ∙ getD-set-same S k x 0 (omega (arith, was .steps-room))) (getD-set-same A k a 0 (omega (arith, was .symbols-room)))))
       one m l (no z) =
           getD-set-other (set S k x) (afterStep k) (afterStep m) y 0 (λ q. z (omega arith))
           ∙ getD-set-other S k (afterStep m) x 0 (λ q. omega arith)
           ∙ was .step m l
-          ∙ sym (ap₂ (stepFold (b .arcs)) (before m l ∙ getD-set-other S k m x 0 z) (getD-set-other A k m a 0 z))
+          ∙ sym (ap₂ (focusStep b) (before m l ∙ getD-set-other S k m x 0 z) (getD-set-other A k m a 0 z))
 
 -- the step of the focus, cut to the right set
-pub step-pruned : (book : List ℕ) → checkDef book .reply ≡ 0 → (F a R x : ℕ) → x ≡ stepFold (bookOf book .arcs) F a → bitAnd x R ≡ focusNext (bookOf book) F a R
-step-pruned book h F a R x e = ap (λ (y : ℕ). bitAnd y R) e ∙ focus-pruned (bookOf book) F a R (sound-of book h)
+pub step-pruned : (book : List ℕ) → checkDef book .reply ≡ 0 → (F a R x : ℕ) → x ≡ focusStep (bookOf book) F a → bitAnd x R ≡ focusNext (bookOf book) F a R
+step-pruned book h F a R x e = ap (λ (y : ℕ). bitAnd y R) e ∙ Meaning.step-pruned (bookOf book) (sound-of book h) F a R

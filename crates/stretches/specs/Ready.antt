@@ -9,7 +9,7 @@ use Rattle.book.specs.Reading.{State, Book, wordAt, checkDef, bookOf}
 use Rattle.book.specs.Sound.{Sound}
 use Rattle.book.specs.Outline.{Placed, ruleMask, allMask}
 use Rattle.sets.specs.Sets.{leftFirst, leftNext, rightAt}
-use Rattle.sets.specs.Stepping.{stepFold}
+use Rattle.sets.specs.Focus.{focusStep}
 use Rattle.sets.specs.Numbering.{mostSets}
 use Rattle.sets.specs.Workspace.{rowBytes, setWords}
 use Rattle.sets.specs.Tables.{leftCount}
@@ -113,4 +113,4 @@ afterStep k = slotCount + k
 pub record Remembers (b : Book) (steps symbols : List ℕ) : Type 0 where
   pub steps-room : length steps ≡ slotCount + slotCount
   pub symbols-room : length symbols ≡ slotCount
-  pub step : (k : ℕ) → k < slotCount → getD steps (afterStep k) 0 ≡ stepFold (b .arcs) (getD steps k 0) (getD symbols k 0)
+  pub step : (k : ℕ) → k < slotCount → getD steps (afterStep k) 0 ≡ focusStep b (getD steps k 0) (getD symbols k 0)

@@ -10,16 +10,15 @@ use crate::outline::RIGHT_STARTS;
 ghost use mathlib.Core.Path.{_≡_};
 ghost use Prim.Native.Nat.{_+_, _*_, _≤_, _<_};
 ghost use lib.ListN.{length, getD};
-ghost use Rattle.book.specs.Format.{symbolCount, mostRules};
+ghost use Rattle.book.specs.Format.{symbolCount};
 ghost use Rattle.book.specs.Reading.{checkDef, bookOf};
 ghost use Rattle.book.specs.Language.{rulesIn};
 ghost use Rattle.book.specs.Outline.{Placed};
 ghost use Rattle.sets.specs.Sets.{leftAt};
-ghost use Rattle.sets.specs.Focus.{focusFirst};
-ghost use Rattle.sets.specs.Stepping.{stepFold, joins};
+ghost use Rattle.sets.specs.Focus.{focusFirst, openedBy, focusStep};
 ghost use Rattle.sets.specs.Numbering.{mostSets};
 ghost use Rattle.sets.specs.Workspace.{rowBytes, setWords};
-ghost use Rattle.stretches.specs.Ready.{leftAccepts, focusStarts, Tests, Outlined, Rights, slotCount, Remembers};
+ghost use Rattle.stretches.specs.Ready.{Tests, Outlined, Rights, slotCount, Remembers};
 ghost use Rattle.stretches.specs.Position.{hits, hitRule, Takes};
 
 // The number that is no rule's.
@@ -41,10 +40,11 @@ pub fn left_step(rows: &[u8], k: usize, symbol: u8) -> usize
     rows[symbol as usize + sets::ROW * k] as usize
 }
 
-// The focus starts of a rule whose left context holds.
-fn opened(masks: &[u64; MASKS], left: u64, rule: usize) -> u64
-    requires { ⌜ rule < mostRules ⌝ }
-    ensures { λ r. ⌜ r ≡ joins left (getD (now (masks .entry)) (leftAccepts rule) 0) (getD (now (masks .entry)) (focusStarts rule) 0) ⌝ }
+// The focus starts of a rule, where its left context holds.
+fn opened(book: &[u8], masks: &[u64; MASKS], rules: usize, left: u64, rule: usize) -> u64
+    requires { ⌜ Tests (bookOf (now book)) rules (now masks) ⌝ }
+    requires { ⌜ rule < rules ⌝ }
+    ensures { λ r. ⌜ r ≡ openedBy (bookOf (now (book .entry))) left rule ⌝ }
 {
     if left & masks[LEFT_ACCEPTS + rule] == 0 {
         return 0;
@@ -63,7 +63,7 @@ pub fn focus_first(book: &[u8], masks: &[u64; MASKS], rules: usize, left: u64, r
     let mut out: u64 = 0;
     let mut rule = 0;
     while rule < rules {
-        out = out | opened(masks, left, rule);
+        out = out | opened(book, masks, rules, left, rule);
         rule += 1;
     }
     out & right
@@ -92,7 +92,7 @@ pub fn rule_hits(
 }
 
 // The lowest rule that passes at an end. At most ends the set holds no focus accept.
-pub fn rule_hit(book: &[u8], masks: &[u64; MASKS], rules: usize, set: u64, right: u64) -> usize
+fn rule_hit(book: &[u8], masks: &[u64; MASKS], rules: usize, set: u64, right: u64) -> usize
     requires { ⌜ Tests (bookOf (now book)) rules (now masks) ⌝ }
     ensures { λ r. ⌜ r ≡ hitRule (bookOf (now (book .entry))) set right ⌝ }
 {
@@ -137,7 +137,7 @@ fn remembered(
     requires { ⌜ checkDef (now book) .reply ≡ 0 ⌝ }
     requires { ⌜ Placed (bookOf (now book) .states) (now places) ⌝ }
     requires { ⌜ Remembers (bookOf (now book)) (now steps) (now symbols) ⌝ }
-    ensures { λ r. ⌜ r ≡ stepFold (bookOf (now (book .entry)) .arcs) set symbol ⌝ }
+    ensures { λ r. ⌜ r ≡ focusStep (bookOf (now (book .entry))) set symbol ⌝ }
     ensures { λ _. ⌜ Remembers (bookOf (now (book .entry))) (now (steps .exit)) (now (symbols .exit)) ⌝ }
 {
     let slot = slot_of(set, symbol);

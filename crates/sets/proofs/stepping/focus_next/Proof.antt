@@ -4,7 +4,7 @@ use mathlib.Core.Path.{ap, _∙_}
 use lib.Bits.{bitAnd}
 use Rattle.book.proofs.Accepted.{is-accepted}
 use Rattle.book.proofs.Sound.{accepted-sound}
-use Rattle.sets.proofs.Closing.{focus-pruned}
+use Rattle.sets.proofs.Meaning.{step-pruned}
 use Rattle.sets.proofs.stepping.focus_next.Statement.{statement}
 use Rattle.sets.proofs.stepping.focus_next.Tie as tie
 
@@ -14,7 +14,7 @@ focus-step-requires c κs = let a = c .before in (a .pre .0, a .pre .1)
 returns : tie.Need-returns
 returns c =
     let a = c .before .before in
-    ap (λ (x : ℕ). bitAnd x (a .args .right)) (c .focus-step .ensures) ∙ focus-pruned _ _ _ _ (accepted-sound _ _ (is-accepted _ (a .pre .0)))
+    ap (λ (x : ℕ). bitAnd x (a .args .right)) (c .focus-step .ensures) ∙ step-pruned _ (accepted-sound _ _ (is-accepted _ (a .pre .0))) _ _ _
 
 pub focus-next-spec : {M : Type 1} → statement M
 focus-next-spec = tie.close (tie.spec focus-step-requires returns)

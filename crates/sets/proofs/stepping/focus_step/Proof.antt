@@ -1,10 +1,14 @@
 -- What is out and the step of what is left make the step of the set, by `Stepping`; each turn takes the lowest state away, and its rule is
 -- read from its record on unless that was done for a lower state.
+use mathlib.Core.Path.{_∙_}
 use native.Mathlib.Omega.{arith}
 use borrow.Author.Needs.{needs}
 use lib.Count.{trailingZeros}
 use Rattle.book.specs.Reading.{bookOf}
+use Rattle.book.proofs.Accepted.{is-accepted}
+use Rattle.book.proofs.Sound.{accepted-sound}
 use Rattle.book.proofs.Bits.{lowest, without-less}
+use Rattle.sets.proofs.Closing.{step-is}
 use Rattle.sets.proofs.Sweep.{Stepping, stepping-start, stepping-end, turn-done, turn-none, turn-swept, none-placed, placed-fits}
 use Rattle.sets.proofs.stepping.focus_step.Statement.{statement}
 use Rattle.sets.proofs.stepping.focus_step.Tie as tie
@@ -63,7 +67,10 @@ loop-again-3 : tie.Need-loop-again-3 Inv-loop μ-loop
 loop-again-3 c = let l = c .before .before .loop in turn-done _ _ _ (l .left) (l .out) (l .done) (omega arith) (l .inv) (c .if1 .left)
 
 returns : tie.Need-returns Inv-loop μ-loop
-returns c = let l = c .before .loop in stepping-end _ _ _ (l .left) (l .out) (l .done) (omega arith) (l .inv)
+returns c =
+    let a = c .before .before .before in
+    let l = c .before .loop in
+    stepping-end _ _ _ (l .left) (l .out) (l .done) (omega arith) (l .inv) ∙ step-is _ _ _ (accepted-sound _ _ (is-accepted _ (a .pre .0)))
 
 pub focus-step-spec : {M : Type 1} → statement M
 focus-step-spec =

@@ -1,17 +1,16 @@
--- `walk::focus_first` meets its contract: what the rules so far open is gathered, and the rules that there are not would open nothing. Assumes nothing.
+-- `walk::focus_first` meets its contract: what the rules so far open is gathered. Assumes nothing.
 use Prim.Native.Nat.{_-_, _≤_}
 use mathlib.Core.Path.{_≡_}
 use native.Mathlib.Omega.{arith}
 use borrow.Author.Needs.{needs}
-use lib.ListN.{drop}
 use Rattle.book.specs.Reading.{bookOf}
-use Rattle.sets.specs.Stepping.{gather}
+use Rattle.sets.specs.Focus.{openedBelow}
 use Rattle.stretches.proofs.Meets.{none-first, open-start, open-turn, open-end}
 use Rattle.stretches.proofs.walk.focus_first.Statement.{statement}
 use Rattle.stretches.proofs.walk.focus_first.Tie as tie
 
 abbrev Inv-loop : tie.InvT-loop
-Inv-loop book masks rules left right out₀ rule₀ out rule = (rule ≤ rules) × (out ≡ gather rule left masks (drop 16 masks))
+Inv-loop book masks rules left right out₀ rule₀ out rule = (rule ≤ rules) × (out ≡ openedBelow (bookOf book) left rule)
 
 abbrev μ-loop : tie.MeasureT-loop
 μ-loop book masks rules left right out₀ rule₀ out rule = rules - rule
@@ -31,7 +30,7 @@ loop-holds c =
 
 opened-requires : tie.Need-opened-requires Inv-loop μ-loop
 opened-requires c κs =
-    omega (arith, c .before .before .before .before .before .pre .many, c .before .before .before .before .before .pre .sound .rules)
+    (c .before .before .before .before .before .pre, c .loop-test .taken)
 
 add-rule : tie.Need-add-rule Inv-loop μ-loop
 add-rule c = search needs
