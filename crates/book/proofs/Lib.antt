@@ -1,6 +1,7 @@
 pub mod Bits
 pub mod Tests
 pub mod Contexts
+pub mod Arcs
 pub mod Laws
 pub mod Passed
 pub mod Agree
