@@ -18,7 +18,7 @@ use Rattle.lines.specs.Listing.{AfterLines, linesLeave, linesDef}
 use Rattle.stretches.specs.Ready.{Ready}
 use Rattle.stretches.specs.Position.{Takes}
 use Rattle.lines.specs.Lines.{decider, decidingAt, startLines, LinesFit, LinesPut}
-use Rattle.lines.specs.declared.lines.Deciding.{Deciding}
+use Rattle.lines.specs.declared.writing.Deciding.{Deciding}
 use Rattle.stretches.proofs.Walks.{over, over-suc, over-zero, cover-in, cover-new, stands}
 use Rattle.stretches.proofs.Counts.{words-length}
 use Rattle.stretches.proofs.NoEmpty.{no-empty}

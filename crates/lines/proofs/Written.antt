@@ -19,7 +19,7 @@ use Rattle.stretches.specs.Account.{Line, each, lineWords, lineLength, wordsIn}
 use Rattle.stretches.specs.Ready.{Rights}
 use Rattle.stretches.specs.Position.{hits}
 use Rattle.lines.specs.Lines.{lineBy, hitLines, endLines, startLines, LinesFit, LinesPut}
-use Rattle.lines.specs.declared.lines.Deciding.{Deciding}
+use Rattle.lines.specs.declared.writing.Deciding.{Deciding}
 use Rattle.stretches.proofs.Lists.{each-none, each-same, keep-not}
 use Rattle.stretches.proofs.NoEmpty.{NoEmpty, no-empty, past-start}
 use Rattle.stretches.proofs.Front.{Front, front-begin, front-place, front-put, front-finish, put-nil}

@@ -1,5 +1,5 @@
 // ACCOUNT's passes over one tape: the candidates are counted before the first word is written, so that a refusal leaves the account as it was.
-use crate::lines::write_lines;
+use crate::writing::write_lines;
 use stretches::outline::ALL_ACCEPTS;
 use stretches::outline::MASKS;
 use stretches::outline::outline_of;
@@ -19,7 +19,7 @@ ghost use Rattle.lines.specs.Listing.{linesLeave, linesDef};
 ghost use Rattle.stretches.specs.Ready.{Tests, Outlined, Ready, Rights};
 ghost use Rattle.lines.specs.Lines.{hitCount, startCount};
 
-mod lines; // lines.rt: the lines of the account
+mod writing; // writing.rt: the lines of the account, one after the other
 
 // The words of a line of an account: rule, start, end, verdict, deciding start.
 pub const LINE: usize = 5;
@@ -142,9 +142,9 @@ fn count_and_write<'a>(
     }
 }
 
-// The account of one tape after a build and its backward pass. Public, and with a `requires`, as `output::finish` is: who accounts for many
+// The account of one tape after a build and its backward pass. Public, and with a `requires`, as `output::rewrite_ready` is: who accounts for many
 // tapes after one build need not check and build again for each.
-pub fn list(
+pub fn account_ready(
     book: &[u8],
     tape: &[u8],
     rows: &[u8],

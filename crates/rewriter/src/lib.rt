@@ -64,5 +64,5 @@ pub fn account(
             candidates: 0,
         };
     }
-    lines::list(book, tape, rows, sets, scratch, opened.rules, lines)
+    lines::account_ready(book, tape, rows, sets, scratch, opened.rules, lines)
 }

@@ -1,12 +1,12 @@
--- `lines::lines::lines_at` meets its contract: the lines of the ends up to j are written, and the set is the pruned one. The measure is what is left of the tape. Assumes nothing.
+-- `writing::lines_at` meets its contract: the lines of the ends up to j are written, and the set is the pruned one. The measure is what is left of the tape. Assumes nothing.
 use Prim.Native.Nat.{_-_, _≤_, _<_}
 use native.Mathlib.Omega.{arith}
 use borrow.Author.Needs.{needs}
 use lib.ListN.{length}
 use Rattle.stretches.specs.Buffers.{longestTape}
 use Rattle.lines.proofs.Written.{Listed, listed-start, listed-room, listed-turn, listed-dead, listed-end}
-use Rattle.lines.proofs.lines.lines_at.Statement.{statement}
-use Rattle.lines.proofs.lines.lines_at.Tie as tie
+use Rattle.lines.proofs.writing.lines_at.Statement.{statement}
+use Rattle.lines.proofs.writing.lines_at.Tie as tie
 
 abbrev Inv-loop : tie.InvT-loop
 Inv-loop book places masks rules tape sets scratch from left d lines₀ at set₀ p₀ j₀ lines set p j =

@@ -1,10 +1,10 @@
--- `lines::lines::put_line` meets its contract: the stores in a row put the words of one line. Assumes nothing.
+-- `writing::put_line` meets its contract: the stores in a row put the words of one line. Assumes nothing.
 use native.Mathlib.Omega.{arith}
 use borrow.Author.Needs.{needs}
 use lib.ListN.{length-set}
 use Rattle.lines.proofs.Written.{put-words}
-use Rattle.lines.proofs.lines.put_line.Statement.{statement}
-use Rattle.lines.proofs.lines.put_line.Tie as tie
+use Rattle.lines.proofs.writing.put_line.Statement.{statement}
+use Rattle.lines.proofs.writing.put_line.Tie as tie
 
 mul-lines : tie.Need-mul-lines
 mul-lines c = search needs

@@ -18,11 +18,11 @@ ghost use Rattle.book.specs.Reading.{bookOf};
 ghost use Rattle.book.specs.Language.{rulesIn};
 ghost use Rattle.sets.specs.Sets.{leftAt};
 ghost use Rattle.stretches.specs.Candidates.{keep};
-ghost use Rattle.stretches.specs.Account.{account, lineLength, wordsIn};
+ghost use Rattle.stretches.specs.Account.{verdictBy, account, lineLength, wordsIn};
 ghost use Rattle.stretches.specs.Buffers.{longestTape, onto};
 ghost use Rattle.stretches.specs.Ready.{Tests, Outlined, Ready, Rights, Remembers};
 ghost use Rattle.stretches.specs.Position.{hits};
-ghost use Rattle.lines.specs.Lines.{decidingAt, verdictBy, lineBy, hitLines, startLines, LinesFit, LinesPut};
+ghost use Rattle.lines.specs.Lines.{decidingAt, lineBy, hitLines, startLines, LinesFit, LinesPut};
 
 // The stretch that decides at a position, and its rule: the taken one that stands over it, or the empty one at it.
 pub struct Deciding {
@@ -31,17 +31,17 @@ pub struct Deciding {
     pub rule: usize,
 }
 
-// The verdict on the candidate of rule r from i to j, where the stretch from `start` to `end` with its rule decides.
-fn verdict_of(i: usize, j: usize, r: usize, start: usize, end: usize, rule: usize) -> u16
-    ensures { λ v. ⌜ v ≡ verdictBy i j r (record { start = start; end = end; rule = rule }) ⌝ }
+// The verdict on the candidate of rule r from i to j, where d decides.
+fn verdict_of(i: usize, j: usize, r: usize, d: Deciding) -> u16
+    ensures { λ v. ⌜ v ≡ verdictBy i j r (d .start) (d .end) (d .rule) ⌝ }
 {
-    if start < i {
+    if d.start < i {
         return 3;
     }
-    if j < end {
+    if j < d.end {
         return 1;
     }
-    if rule < r {
+    if d.rule < r {
         return 2;
     }
     0
@@ -88,10 +88,8 @@ fn put_if(
     ensures { λ p. ⌜ LinesPut (keep (hits (bookOf (now (book .entry))) set right r) (lineBy i j r d)) at (now (lines .entry)) p (now (lines .exit)) ⌝ }
 {
     let start = d.start;
-    let end = d.end;
-    let rule = d.rule;
     if rule_hits(book, masks, rules, set, right, r) {
-        let verdict = verdict_of(i, j, r, start, end, rule);
+        let verdict = verdict_of(i, j, r, d);
         return put_line(
             lines,
             at,

@@ -1,4 +1,4 @@
--- `lines::lines::write_lines` meets its contract: the lines of the starts before i are written. The measure is what is left of the tape. Assumes nothing.
+-- `writing::write_lines` meets its contract: the lines of the starts before i are written. The measure is what is left of the tape. Assumes nothing.
 use Prim.Native.Nat.{_-_, _<_}
 use native.Mathlib.Omega.{arith}
 use borrow.Author.Needs.{needs}
@@ -8,8 +8,8 @@ use Rattle.stretches.specs.Ready.{Remembers}
 use Rattle.lines.proofs.Listings.{Accounting, accounting-start, accounting-room, accounting-turn, accounting-end, deciding-low}
 use Rattle.stretches.proofs.Scans.{rights-of}
 use Rattle.stretches.proofs.Remembering.{remembers-start}
-use Rattle.lines.proofs.lines.write_lines.Statement.{statement}
-use Rattle.lines.proofs.lines.write_lines.Tie as tie
+use Rattle.lines.proofs.writing.write_lines.Statement.{statement}
+use Rattle.lines.proofs.writing.write_lines.Tie as tie
 
 abbrev Inv-loop : tie.InvT-loop
 Inv-loop book places masks rules tape rows sets scratch lines₀ steps₀ symbols₀ d₀ at₀ k₀ i₀ lines steps symbols d at k i =

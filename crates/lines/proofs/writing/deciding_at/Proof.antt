@@ -1,10 +1,10 @@
--- `lines::lines::deciding_at` meets its contract: the stretch taken last goes on, or what is taken here decides. Assumes nothing.
+-- `writing::deciding_at` meets its contract: the stretch taken last goes on, or what is taken here decides. Assumes nothing.
 use native.Mathlib.Omega.{arith}
 use borrow.Author.Needs.{needs}
 use Rattle.book.specs.Language.{rulesIn}
 use Rattle.lines.proofs.Listings.{deciding-in, deciding-new}
-use Rattle.lines.proofs.lines.deciding_at.Statement.{statement}
-use Rattle.lines.proofs.lines.deciding_at.Tie as tie
+use Rattle.lines.proofs.writing.deciding_at.Statement.{statement}
+use Rattle.lines.proofs.writing.deciding_at.Tie as tie
 
 returns : tie.Need-returns
 returns c =

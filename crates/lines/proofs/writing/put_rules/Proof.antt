@@ -1,4 +1,4 @@
--- `lines::lines::put_rules` meets its contract: the lines of the rules below r are written. The measure is what is left of the rules. Assumes nothing.
+-- `writing::put_rules` meets its contract: the lines of the rules below r are written. The measure is what is left of the rules. Assumes nothing.
 use Prim.Native.Nat.{_-_, _<_}
 use native.Mathlib.Omega.{arith}
 use borrow.Author.Needs.{needs}
@@ -6,8 +6,8 @@ use lib.ListN.{length}
 use Rattle.book.specs.Reading.{bookOf}
 use Rattle.lines.proofs.Written.{Lined, lined-none, lined-start, lined-room, lined-turn, lined-end}
 use Rattle.stretches.proofs.Meets.{none-hits}
-use Rattle.lines.proofs.lines.put_rules.Statement.{statement}
-use Rattle.lines.proofs.lines.put_rules.Tie as tie
+use Rattle.lines.proofs.writing.put_rules.Statement.{statement}
+use Rattle.lines.proofs.writing.put_rules.Tie as tie
 
 abbrev Inv-loop : tie.InvT-loop
 Inv-loop book masks rules set right i j d lines₀ at p₀ r₀ lines p r =

@@ -1,7 +1,7 @@
--- `lines::list` meets its contract: it lends the outline of the book. Assumes nothing.
+-- `lines::account_ready` meets its contract: it lends the outline of the book. Assumes nothing.
 use borrow.Author.Needs.{needs}
-use Rattle.lines.proofs.list.Statement.{statement}
-use Rattle.lines.proofs.list.Tie as tie
+use Rattle.lines.proofs.account_ready.Statement.{statement}
+use Rattle.lines.proofs.account_ready.Tie as tie
 
 outline-of-requires : tie.Need-outline-of-requires
 outline-of-requires c κs =
@@ -18,5 +18,5 @@ returns : tie.Need-returns
 returns c =
     c .before .before .count-and-write .ensures
 
-pub list-spec : {M : Type 1} → statement M
-list-spec = tie.close (tie.spec outline-of-requires count-and-write-requires same-length returns)
+pub account-ready-spec : {M : Type 1} → statement M
+account-ready-spec = tie.close (tie.spec outline-of-requires count-and-write-requires same-length returns)

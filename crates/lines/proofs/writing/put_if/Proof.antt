@@ -1,12 +1,12 @@
--- `lines::lines::put_if` meets its contract: the line is kept where the rule passes, and nothing is written where it does not. Assumes nothing.
+-- `writing::put_if` meets its contract: the line is kept where the rule passes, and nothing is written where it does not. Assumes nothing.
 use mathlib.Core.Path.{sym}
 use borrow.Author.Needs.{needs}
 use Rattle.book.specs.Reading.{bookOf}
 use Rattle.lines.specs.Lines.{lineBy}
 use Rattle.stretches.specs.Position.{hits}
 use Rattle.lines.proofs.Written.{kept-room, kept-yes, kept-no}
-use Rattle.lines.proofs.lines.put_if.Statement.{statement}
-use Rattle.lines.proofs.lines.put_if.Tie as tie
+use Rattle.lines.proofs.writing.put_if.Statement.{statement}
+use Rattle.lines.proofs.writing.put_if.Tie as tie
 
 rule-hits-requires : tie.Need-rule-hits-requires
 rule-hits-requires c κs = search needs
