@@ -4,8 +4,8 @@ use stretches::outline::ALL_ACCEPTS;
 use stretches::outline::MASKS;
 use stretches::outline::outline_of;
 use stretches::walk::focus_first;
-use stretches::walk::left_step;
-use stretches::walk::right_set;
+use sets::entries::left_entry;
+use sets::entries::right_set;
 use stretches::walk::rule_hits;
 ghost use mathlib.Core.Path.{_≡_};
 ghost use Prim.Native.Nat.{_≤_};
@@ -103,7 +103,7 @@ fn count(
     let mut i = 0;
     while i < tape.len() {
         n += start_count(book, places, masks, rules, tape, sets, scratch, i, sets[k]);
-        k = left_step(rows, k, tape[i]);
+        k = left_entry(rows, k, tape[i]);
         i += 1;
     }
     n

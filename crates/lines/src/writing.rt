@@ -3,11 +3,11 @@
 use crate::LINE;
 use stretches::outline::ALL_ACCEPTS;
 use stretches::outline::MASKS;
-use stretches::walk::SLOTS;
-use stretches::walk::STEPS;
+use stretches::steps::SLOTS;
+use stretches::steps::STEPS;
 use stretches::walk::focus_first;
-use stretches::walk::left_step;
-use stretches::walk::right_set;
+use sets::entries::left_entry;
+use sets::entries::right_set;
 use stretches::walk::rule_hits;
 use stretches::walk::taken_at;
 ghost use mathlib.Core.Path.{_≡_};
@@ -272,7 +272,7 @@ pub(crate) fn write_lines(
             lines,
             at,
         );
-        k = left_step(rows, k, tape[i]);
+        k = left_entry(rows, k, tape[i]);
         i += 1;
     }
 }

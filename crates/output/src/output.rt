@@ -2,10 +2,10 @@
 // not fit it is measured before the first write, so that a refusal leaves the outputs as they were.
 use stretches::outline::ALL_STARTS;
 use stretches::outline::MASKS;
-use stretches::walk::SLOTS;
-use stretches::walk::STEPS;
-use stretches::walk::left_step;
-use stretches::walk::right_set;
+use stretches::steps::SLOTS;
+use stretches::steps::STEPS;
+use sets::entries::left_entry;
+use sets::entries::right_set;
 use stretches::walk::taken_at;
 ghost use mathlib.Core.Path.{_≡_};
 ghost use Prim.Native.Nat.{_+_, _≤_, _<_};
@@ -197,7 +197,7 @@ pub(crate) fn measure(
         length += s.length;
         taken += s.taken;
         end = s.end;
-        k = left_step(rows, k, tape[i]);
+        k = left_entry(rows, k, tape[i]);
         i += 1;
     }
     Size { length, taken }
@@ -335,7 +335,7 @@ pub(crate) fn forward(
         at = r.at;
         end = r.end;
         taken = r.taken;
-        k = left_step(rows, k, tape[i]);
+        k = left_entry(rows, k, tape[i]);
         i += 1;
     }
     Size { length: at, taken }

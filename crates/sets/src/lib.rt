@@ -8,6 +8,7 @@ ghost use Rattle.sets.specs.Workspace.{rowBytes, setWords, refusal, stan
 ghost use Rattle.sets.specs.Sides.{tableOf, SideMasks};
 
 pub mod stepping; // stepping.rt: the step of a set
+pub mod entries; // entries.rt: reading a built workspace
 mod numbering; // numbering.rt: the numbers of a side's sets
 mod workspace; // workspace.rt: the parts of the workspace
 

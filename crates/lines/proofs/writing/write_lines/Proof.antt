@@ -50,11 +50,11 @@ lines-at-requires c κs =
     let room = accounting-room (a .book .now) (a .tape .now) (a .rows .now) (a .sets .now) (a .scratch .now) (a .lines .now) (s .pre .1 .0) (l .lines) (l .at) (l .d) (l .k) (l .i) (l .inv .0) (d .result) (d .ensures .0) h in
     (s .pre .0, (seen, ((omega arith, l .inv .0 .left .is), ((s .pre .1 .0 .tape-fits, low), room))))
 
-shared-slice-read-left-step : tie.Need-shared-slice-read-left-step Inv-loop μ-loop
-shared-slice-read-left-step c = search needs
+shared-slice-read-left-entry : tie.Need-shared-slice-read-left-entry Inv-loop μ-loop
+shared-slice-read-left-entry c = search needs
 
-left-step-requires : tie.Need-left-step-requires Inv-loop μ-loop
-left-step-requires c κs =
+left-entry-requires : tie.Need-left-entry-requires Inv-loop μ-loop
+left-entry-requires c κs =
     let l = c .before .before .before .before .before .before .before .before .before .before .loop in
     let h : l .i < length (c .before .before .before .before .before .before .before .before .before .before .before .before .before .before .before .before .before .args .tape .now) = c .before .before .before .before .before .before .before .before .before .loop-test .taken in
     (omega (arith, l .inv .0 .left .below, c .before .before .before .before .before .before .before .before .before .before .before .before .before .before .before .before .before .pre .1 .0 .few), c .before .before .before .before .before .before .before .before .before .before .before .before .before .before .before .before .before .pre .1 .0 .symbols (l .i) h, c .before .before .before .before .before .before .before .before .before .before .before .before .before .before .before .before .before .pre .1 .0 .rows-room)
@@ -74,7 +74,7 @@ loop-again c =
     let d = c .before .before .before .before .before .before .deciding-at in
     let u = c .before .before .before .before .lines-at in
     let h : l .i < length (a .tape .now) = c .before .before .before .before .before .before .before .before .before .before .loop-test .taken in
-    (accounting-turn (a .book .now) (a .tape .now) (a .rows .now) (a .sets .now) (a .scratch .now) (a .lines .now) (s .pre .1 .0) (l .lines) (l .at) (l .d) (l .k) (l .i) (l .inv .0) (d .result) (d .ensures .0) h (u .result) (c .left-step .result) (u .last .1 .1 .1 .1 .1 .1 .1 .1 .1 .1 .0) (u .ensures) (c .left-step .ensures), d .ensures .1)
+    (accounting-turn (a .book .now) (a .tape .now) (a .rows .now) (a .sets .now) (a .scratch .now) (a .lines .now) (s .pre .1 .0) (l .lines) (l .at) (l .d) (l .k) (l .i) (l .inv .0) (d .result) (d .ensures .0) h (u .result) (c .left-entry .result) (u .last .1 .1 .1 .1 .1 .1 .1 .1 .1 .1 .0) (u .ensures) (c .left-entry .ensures), d .ensures .1)
 
 same-length : tie.Need-same-length Inv-loop μ-loop
 same-length c = search needs
@@ -97,8 +97,8 @@ write-lines-spec =
     shared-slice-read-left
     deciding-at-requires
     lines-at-requires
-    shared-slice-read-left-step
-    left-step-requires
+    shared-slice-read-left-entry
+    left-entry-requires
     add-i
     loop-less
     loop-again

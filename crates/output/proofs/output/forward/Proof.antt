@@ -47,11 +47,11 @@ place-requires c κs =
       ),
     )
 
-shared-slice-read-left-step : tie.Need-shared-slice-read-left-step Inv-loop μ-loop
-shared-slice-read-left-step c = search needs
+shared-slice-read-left-entry : tie.Need-shared-slice-read-left-entry Inv-loop μ-loop
+shared-slice-read-left-entry c = search needs
 
-left-step-requires : tie.Need-left-step-requires Inv-loop μ-loop
-left-step-requires c κs =
+left-entry-requires : tie.Need-left-entry-requires Inv-loop μ-loop
+left-entry-requires c κs =
     let l = c .before .before .before .before .before .before .before .before .before .before .before .before .loop in
     let h : l .i < length (c .before .before .before .before .before .before .before .before .before .before .before .before .before .before .before .before .before .before .before .before .args .tape .now) = c .before .before .before .before .before .before .before .before .before .before .before .loop-test .taken in
     (omega (arith, l .inv .0 .counted .left .below, c .before .before .before .before .before .before .before .before .before .before .before .before .before .before .before .before .before .before .before .before .pre .1 .0 .few), c .before .before .before .before .before .before .before .before .before .before .before .before .before .before .before .before .before .before .before .before .pre .1 .0 .symbols (l .i) h, c .before .before .before .before .before .before .before .before .before .before .before .before .before .before .before .before .before .before .before .before .pre .1 .0 .rows-room)
@@ -69,9 +69,9 @@ loop-again c =
     let l = c .before .before .before .before .before .before .before .before .before .before .before .before .before .loop in
     let p = c .before .before .before .before .before .before .place in
     let h : l .i < length (a .tape .now) = c .before .before .before .before .before .before .before .before .before .before .before .before .loop-test .taken in (
-      forth-turn (a .book .now) (a .tape .now) (a .rows .now) (a .sets .now) (a .scratch .now) (a .out .now) (a .origins .now) (c .before .before .before .before .before .before .before .before .before .before .before .before .before .before .before .before .before .before .before .before .before .pre .1 .0) (l .out) (l .origins) (l .at) (l .taken) (l .end) (l .k) (l .i) (l .inv .0) h (p .result .at) (p .result .end) (p .result .taken) (c .left-step .result) _ _
+      forth-turn (a .book .now) (a .tape .now) (a .rows .now) (a .sets .now) (a .scratch .now) (a .out .now) (a .origins .now) (c .before .before .before .before .before .before .before .before .before .before .before .before .before .before .before .before .before .before .before .before .before .pre .1 .0) (l .out) (l .origins) (l .at) (l .taken) (l .end) (l .k) (l .i) (l .inv .0) h (p .result .at) (p .result .end) (p .result .taken) (c .left-entry .result) _ _
           (forth-room (a .book .now) (a .tape .now) (a .rows .now) (a .sets .now) (a .scratch .now) (a .out .now) (a .origins .now) (c .before .before .before .before .before .before .before .before .before .before .before .before .before .before .before .before .before .before .before .before .before .pre .1 .0) (l .out) (l .origins) (l .at) (l .taken) (l .end) (l .k) (l .i) (l .inv .0) h (c .before .before .before .before .before .before .before .before .before .before .before .before .before .before .before .before .before .before .before .before .before .pre .1 .1 .0) (c .before .before .before .before .before .before .before .before .before .before .before .before .before .before .before .before .before .before .before .before .before .pre .1 .1 .1))
-          (p .ensures .0) (c .left-step .ensures),
+          (p .ensures .0) (c .left-entry .ensures),
       p .ensures .1,
     )
 
@@ -103,8 +103,8 @@ forward-spec =
     mul-place
     shared-slice-read-place
     place-requires
-    shared-slice-read-left-step
-    left-step-requires
+    shared-slice-read-left-entry
+    left-entry-requires
     add-i
     loop-less
     loop-again

@@ -53,11 +53,11 @@ add-taken c =
     let d = shared-on (rulesIn (a .book .now)) (a .tape .now) (l .i) (l .end) (r .result .length) (r .result .end) (r .result .taken) (r .ensures .0) (l .length) (l .taken) in
     omega (arith, counted-fits (a .book .now) (a .tape .now) (a .rows .now) (a .sets .now) (a .scratch .now) (c .before .before .before .before .before .before .before .before .before .before .before .before .before .pre .1) (l .length) (l .taken) (l .end) (l .k) (l .i) (l .inv .0) (c .before .before .before .before .before .before .loop-test .taken) (l .length + r .result .length) (r .result .end) (l .taken + r .result .taken) d)
 
-shared-slice-read-left-step : tie.Need-shared-slice-read-left-step Inv-loop μ-loop
-shared-slice-read-left-step c = search needs
+shared-slice-read-left-entry : tie.Need-shared-slice-read-left-entry Inv-loop μ-loop
+shared-slice-read-left-entry c = search needs
 
-left-step-requires : tie.Need-left-step-requires Inv-loop μ-loop
-left-step-requires c κs =
+left-entry-requires : tie.Need-left-entry-requires Inv-loop μ-loop
+left-entry-requires c κs =
     let l = c .before .before .before .before .before .before .before .before .loop in
     let h : l .i < L.length (c .before .before .before .before .before .before .before .before .before .before .before .before .before .before .args .tape .now) = c .before .before .before .before .before .before .before .loop-test .taken in
     (omega (arith, l .inv .0 .left .below, c .before .before .before .before .before .before .before .before .before .before .before .before .before .before .pre .1 .few), c .before .before .before .before .before .before .before .before .before .before .before .before .before .before .pre .1 .symbols (l .i) h, c .before .before .before .before .before .before .before .before .before .before .before .before .before .before .pre .1 .rows-room)
@@ -74,7 +74,7 @@ loop-again c =
     let l = c .before .before .before .before .before .before .before .before .before .loop in
     let r = c .before .before .before .before .share-of in
     let d = shared-on (rulesIn (a .book .now)) (a .tape .now) (l .i) (l .end) (r .result .length) (r .result .end) (r .result .taken) (r .ensures .0) (l .length) (l .taken) in
-    (counted-turn (a .book .now) (a .tape .now) (a .rows .now) (a .sets .now) (a .scratch .now) (c .before .before .before .before .before .before .before .before .before .before .before .before .before .before .before .pre .1) (l .length) (l .taken) (l .end) (l .k) (l .i) (l .inv .0) (c .before .before .before .before .before .before .before .before .loop-test .taken) (l .length + r .result .length) (r .result .end) (l .taken + r .result .taken) d (c .left-step .result) (c .left-step .ensures), r .ensures .1)
+    (counted-turn (a .book .now) (a .tape .now) (a .rows .now) (a .sets .now) (a .scratch .now) (c .before .before .before .before .before .before .before .before .before .before .before .before .before .before .before .pre .1) (l .length) (l .taken) (l .end) (l .k) (l .i) (l .inv .0) (c .before .before .before .before .before .before .before .before .loop-test .taken) (l .length + r .result .length) (r .result .end) (l .taken + r .result .taken) d (c .left-entry .result) (c .left-entry .ensures), r .ensures .1)
 
 returns : tie.Need-returns Inv-loop μ-loop
 returns c =
@@ -94,8 +94,8 @@ measure-spec =
     share-of-requires
     add-length
     add-taken
-    shared-slice-read-left-step
-    left-step-requires
+    shared-slice-read-left-entry
+    left-entry-requires
     add-i
     loop-less
     loop-again

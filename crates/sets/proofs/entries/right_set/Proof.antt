@@ -1,8 +1,8 @@
--- `walk::right_set` meets its contract: a byte of scratch is below 256, so its set stands in the second half of the sets. Assumes nothing.
+-- `entries::right_set` meets its contract: a byte of scratch is below 256, so its set stands in the second half of the sets. Assumes nothing.
 use native.Mathlib.Omega.{arith}
 use borrow.Author.Needs.{needs}
-use Rattle.stretches.proofs.walk.right_set.Statement.{statement}
-use Rattle.stretches.proofs.walk.right_set.Tie as tie
+use Rattle.sets.proofs.entries.right_set.Statement.{statement}
+use Rattle.sets.proofs.entries.right_set.Tie as tie
 
 shared-slice-read-result : tie.Need-shared-slice-read-result
 shared-slice-read-result c = search needs

@@ -1,9 +1,9 @@
--- `walk::remembered` meets its contract: the step is in its place, or is computed and put there. Assumes nothing.
+-- `steps::remembered` meets its contract: the step is in its place, or is computed and put there. Assumes nothing.
 use borrow.Author.Needs.{needs}
 use Rattle.book.specs.Reading.{bookOf}
 use Rattle.stretches.proofs.Remembering.{remembers-seen, remembers-put}
-use Rattle.stretches.proofs.walk.remembered.Statement.{statement}
-use Rattle.stretches.proofs.walk.remembered.Tie as tie
+use Rattle.stretches.proofs.steps.remembered.Statement.{statement}
+use Rattle.stretches.proofs.steps.remembered.Tie as tie
 
 slot-of-requires : tie.Need-slot-of-requires
 slot-of-requires c κs = search needs

@@ -1,9 +1,9 @@
--- `walk::slot_of` meets its contract: a remainder is below its divisor, and 64 trailing zeros are the most. Assumes nothing.
+-- `steps::slot_of` meets its contract: a remainder is below its divisor, and 64 trailing zeros are the most. Assumes nothing.
 use native.Mathlib.Omega.{arith}
 use borrow.Author.Needs.{needs}
 use lib.Count.{trailing-le}
-use Rattle.stretches.proofs.walk.slot_of.Statement.{statement}
-use Rattle.stretches.proofs.walk.slot_of.Tie as tie
+use Rattle.stretches.proofs.steps.slot_of.Statement.{statement}
+use Rattle.stretches.proofs.steps.slot_of.Tie as tie
 
 cast-result : tie.Need-cast-result
 cast-result c = omega (arith, trailing-le 64 (c .args .set))
