@@ -174,9 +174,9 @@ fn long_output(chance: &mut Chance) -> Call {
     call
 }
 
-/// Accounts of about as many words as can be lent: 161 symbols have 13,041 stretches, 65,205 words.
+/// Accounts of about as many words as can be lent: 228 symbols have 26,106 stretches, 130,530 words.
 fn long_account(chance: &mut Chance) -> Call {
-    let length = chance.between(159, 163);
+    let length = chance.between(226, 230);
     let mut call = Call::new(Operation::Account);
     call.book = draft::book(&[full::every_stretch(&[1])]);
     call.tape = (0..length).map(|_| chance.below(16) as u8).collect();
