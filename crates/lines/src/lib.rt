@@ -1,11 +1,11 @@
 // ACCOUNT's passes over one tape: the candidates are counted before the first word is written, so that a refusal leaves the account as it was.
 use crate::writing::write_lines;
+use sets::entries::left_entry;
+use sets::entries::right_set;
 use stretches::outline::ALL_ACCEPTS;
 use stretches::outline::MASKS;
 use stretches::outline::outline_of;
 use stretches::walk::focus_first;
-use sets::entries::left_entry;
-use sets::entries::right_set;
 use stretches::walk::rule_hits;
 ghost use mathlib.Core.Path.{_≡_};
 ghost use Prim.Native.Nat.{_≤_};

@@ -1,13 +1,13 @@
 // The lines of the account: for each start the ends in order, and for each end the rules. The walk from a start ends right after its last
 // candidate.
 use crate::LINE;
+use sets::entries::left_entry;
+use sets::entries::right_set;
 use stretches::outline::ALL_ACCEPTS;
 use stretches::outline::MASKS;
 use stretches::steps::SLOTS;
 use stretches::steps::STEPS;
 use stretches::walk::focus_first;
-use sets::entries::left_entry;
-use sets::entries::right_set;
 use stretches::walk::rule_hits;
 use stretches::walk::taken_at;
 ghost use mathlib.Core.Path.{_≡_};

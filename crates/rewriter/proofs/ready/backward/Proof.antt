@@ -47,7 +47,7 @@ loop-again c =
     let l = c .before .before .before .loop in
     let r = c .right-entry in
     filled-turn (a .rows .now) (a .tape .now) (set (a .scratch .now) (length (a .tape .now)) 0) (l .scratch) (l .i) (l .i - 1) (l .number) (r .result)
-        (omega arith) (omega arith) (simp length-set (omega arith)) (r .ensures) (search needs) (l .inv)
+    (omega arith) (omega arith) (simp length-set (omega arith)) (r .ensures) (search needs) (l .inv)
 
 same-length : tie.Need-same-length Inv-loop μ-loop
 same-length c =
