@@ -19,6 +19,15 @@ pub const ARCS: usize = 512;
 
 pub const WORD: usize = 8;
 
+// The kinds of a record.
+pub const RULE: u8 = 1;
+
+pub const STATE: u8 = 2;
+
+pub const ARC: u8 = 3;
+
+pub const END: u8 = 4;
+
 // CHECK's answer: the reply, its place, and the counts of an accepted book.
 pub struct Checked {
     pub reply: u8,
