@@ -207,7 +207,7 @@ fn step_row(
     while left != 0 {
         let state = u64::trailing_zeros(left) as usize;
         left = left & (left - 1);
-        if done <= state {
+        if done <= state { // its rule has not been read
             let place = places[state] as usize;
             if place != 0 {
                 done = sweep_row(book, place, state, source, target, set, &mut row);
