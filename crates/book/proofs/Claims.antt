@@ -9,20 +9,22 @@ use lib.ListN.{length}
 use lib.Dec.{eqb}
 use borrow.Author.Tests.{eqb-false}
 use native.Mathlib.Omega.{arith}
-use Rattle.book.specs.declared.Checked.{Checked}
 use Rattle.book.specs.Format.{byte, endReply, kindReply}
 use Rattle.book.specs.Reading.{Book, empty, scanOf, accepted, readFrom, readBook, answer, checkDef, bookOf}
 use Rattle.book.specs.Language.{stateOf}
 use Rattle.book.specs.Sound.{Sound}
+use Rattle.book.specs.Determined.{Determined}
+use Rattle.book.proofs.check.Kinds as check-kinds
+use Rattle.book.proofs.check.Reads as check-reads
 use Rattle.book.proofs.Passed.{test-passed, passed}
 use Rattle.book.proofs.Accepted.{Next, last, more, next, never, is-accepted, accepted-answer}
 use Rattle.book.proofs.Sound.{accepted-sound}
 use Rattle.book.proofs.Walk.{walk-start}
 use Rattle.book.proofs.Placing.{Found, found}
 
--- two answers that check's contract allows are equal
-pub one-result : (s : List ℕ) (r q : Checked) → r ≡ checkDef s → q ≡ checkDef s → r ≡ q
-one-result s r q e f = e ∙ sym f
+-- check's contract determines the answer
+pub one-result : Determined 1 check-kinds.ps check-kinds.r check-reads.Post
+one-result κs a r q v w e f = (e ∙ sym f, refl)
 
 -- the end record passes its test after a rule alone
 end-rule : (s : List ℕ) (at : ℕ) (b : Book) → kindReply s at (scanOf b) ≡ 0 → byte s at ≡ 4 → 0 < length (b .words)

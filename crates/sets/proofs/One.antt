@@ -1,9 +1,9 @@
--- Two results that the contract of `build` allows are the same.
-use Prim.Native.Nat.{ℕ}
-use mathlib.Core.Path.{_≡_, sym, _∙_}
-use mathlib.Core.List.{List}
-use Rattle.sets.specs.Workspace.{stands, buildDef}
-use Rattle.sets.specs.declared.Built.{Built}
+-- The contract of `build` determines what it gives and leaves. Assumes nothing.
+use mathlib.Core.Path.{sym, _∙_}
+use Rattle.book.specs.Determined.{Determined}
+use Rattle.sets.proofs.build.Kinds as build-kinds
+use Rattle.sets.proofs.build.Reads as build-reads
 
-pub one-build : (book R S : List ℕ) (r r′ : Built) (R₁ S₁ R₂ S₂ : List ℕ) → stands r R₁ S₁ ≡ buildDef book R S → stands r′ R₂ S₂ ≡ buildDef book R S → stands r R₁ S₁ ≡ stands r′ R₂ S₂
-one-build book R S r r′ R₁ S₁ R₂ S₂ p q = p ∙ sym q
+-- the answer, the rows and the sets
+pub one-build : Determined 3 build-kinds.ps build-kinds.r build-reads.Post
+one-build κs a x y v w p q = let e = p ∙ sym q in (λ i. e i .answer, λ i. (tt, (e i .rows, (e i .sets, tt))))
