@@ -1,6 +1,6 @@
 -- What holds of CHECK beside its contract, and what the layers above may rely on, each stated over `checkDef` and `bookOf`. The walk over
 -- the records of an accepted book, each with its place and content, is `Walk` of Walk.antt; the record of each state is `Found` of
--- Placing.antt. Assumes nothing.
+-- Placing.antt. That the contract determines the answer is `one-result` of One.antt. Assumes nothing.
 use Prim.Native.Nat.{ℕ, zero, suc, _+_, _≤_, _<_}
 use mathlib.Core.Path.{_≡_, refl, sym, subst, _∙_}
 use mathlib.Core.List.{List}
@@ -13,18 +13,11 @@ use Rattle.book.specs.Format.{byte, endReply, kindReply}
 use Rattle.book.specs.Reading.{Book, empty, scanOf, accepted, readFrom, readBook, answer, checkDef, bookOf}
 use Rattle.book.specs.Language.{stateOf}
 use Rattle.book.specs.Sound.{Sound}
-use Rattle.book.specs.Determined.{Determined}
-use Rattle.book.proofs.check.Kinds as check-kinds
-use Rattle.book.proofs.check.Reads as check-reads
 use Rattle.book.proofs.Passed.{test-passed, passed}
 use Rattle.book.proofs.Accepted.{Next, last, more, next, never, is-accepted, accepted-answer}
 use Rattle.book.proofs.Sound.{accepted-sound}
 use Rattle.book.proofs.Walk.{walk-start}
 use Rattle.book.proofs.Placing.{Found, found}
-
--- check's contract determines the answer
-pub one-result : Determined 1 check-kinds.ps check-kinds.r check-reads.Post
-one-result κs a r q v w e f = (e ∙ sym f, refl)
 
 -- the end record passes its test after a rule alone
 end-rule : (s : List ℕ) (at : ℕ) (b : Book) → kindReply s at (scanOf b) ≡ 0 → byte s at ≡ 4 → 0 < length (b .words)

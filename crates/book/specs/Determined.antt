@@ -1,9 +1,10 @@
 -- Document 01, "How tight the promises are": each contract "determines its reply, counts, place and every lent element afterwards, for all
 -- inputs". The contract is the function's own as the checker reads it: `Post` of its generated module `Reads`, with the kinds of its parameters
 -- and of its result. No contract uses these definitions.
-use Prim.Native.Nat.{ℕ}
+use Prim.Native.Nat.{ℕ, _<_}
 use mathlib.Core.List.{List}
 use mathlib.Core.Path.{_≡_}
+use lib.ListN.{getD}
 use contract.Lifetimes.{Lfts}
 use denote.Ref.{RefT, ptr, now}
 use denote.Triple.Clauses.{Lasts, atExit}
@@ -17,7 +18,7 @@ Determines n ps r Same P = (κs : Lfts n) (a : Dens κs ps) (x y : resT r κs .D
     → P κs a y (atExit (endedOf n ps r) κs a w)
     → Same κs x y × (v ≡ w)
 
--- results that are values
+-- of results that are compared whole
 abbrev pub Determined : (n : ℕ) (ps : List (PK n)) (r : RK n) → Out n ps r → Type 0
 Determined n ps r = Determines n ps r (λ κs x y. x ≡ y)
 
@@ -29,3 +30,7 @@ Called n ps r Q P κs a x e = Q κs a × P κs a x e
 pub record SamePart (x y : RefT (List ℕ)) : Type 0 where
   pub place : ptr x ≡ ptr y
   pub elements : now x ≡ now y
+
+-- arrays of n elements, as their type says
+abbrev pub SameArray : ℕ → List ℕ → List ℕ → Type 0
+SameArray n x y = (k : ℕ) → k < n → getD x k 0 ≡ getD y k 0

@@ -1,9 +1,24 @@
--- The contract of `build` determines what it gives and leaves. Assumes nothing.
-use mathlib.Core.Path.{sym, _∙_}
-use Rattle.book.specs.Determined.{Determined}
+-- The contracts of the public functions determine what they give and leave; all but BUILD's are called with an accepted book. Assumes nothing.
+use mathlib.Core.Path.{refl, sym, _∙_}
+use Rattle.book.specs.Determined.{Determined, Called}
 use Rattle.sets.proofs.build.Kinds as build-kinds
 use Rattle.sets.proofs.build.Reads as build-reads
+use Rattle.sets.proofs.number_book.Kinds as number-kinds
+use Rattle.sets.proofs.number_book.Reads as number-reads
+use Rattle.sets.proofs.stepping.focus_step.Kinds as step-kinds
+use Rattle.sets.proofs.stepping.focus_step.Reads as step-reads
+use Rattle.sets.proofs.stepping.focus_next.Kinds as next-kinds
+use Rattle.sets.proofs.stepping.focus_next.Reads as next-reads
 
--- the answer, the rows and the sets
+-- BUILD: the answer, the rows and the sets
 pub one-build : Determined 3 build-kinds.ps build-kinds.r build-reads.Post
 one-build κs a x y v w p q = let e = p ∙ sym q in (λ i. e i .answer, λ i. (tt, (e i .rows, (e i .sets, tt))))
+
+pub one-numbered : Determined 3 number-kinds.ps number-kinds.r (Called 3 number-kinds.ps number-kinds.r number-reads.Pre number-reads.Post)
+one-numbered κs a x y v w p q = let e = p .1 ∙ sym (q .1) in (λ i. e i .answer, λ i. (tt, (e i .rows, (e i .sets, tt))))
+
+pub one-step : Determined 2 step-kinds.ps step-kinds.r (Called 2 step-kinds.ps step-kinds.r step-reads.Pre step-reads.Post)
+one-step κs a x y v w p q = (p .1 ∙ sym (q .1), refl)
+
+pub one-next : Determined 2 next-kinds.ps next-kinds.r (Called 2 next-kinds.ps next-kinds.r next-reads.Pre next-reads.Post)
+one-next κs a x y v w p q = (p .1 ∙ sym (q .1), refl)

@@ -13,6 +13,7 @@ pub mod Lengths
 pub mod Batches
 pub mod Kept
 pub mod Origins
+pub mod One
 pub mod Counts
 pub mod NoEmpty
 pub mod Last

@@ -1,7 +1,7 @@
 -- The symbols and the origins of the output, stretch by stretch; and each output symbol with its origin is kept or of a replacement. Assumes
 -- nothing.
 use Prim.Native.Nat.{ℕ, zero, suc, _+_, _-_, _≤_, _<_}
-use mathlib.Core.List.{List, [], _∷_, _++_, List·Memᴰ, List·Memᴰ·head, List·Memᴰ·tail, List·Memᴰ·append-cases, List·Memᴰ·eq-of-singleton, Memᴰ·cast}
+use mathlib.Core.List.{List, [], _∷_, _++_, List·Memᴰ, List·Memᴰ·head, List·Memᴰ·tail, List·Memᴰ·append-cases, List·Memᴰ·eq-of-singleton}
 use mathlib.Core.Bool.{Bool, true, false, cond}
 use mathlib.Core.Path.{_≡_, refl, sym, subst, ap, ap₂, _∙_}
 use mathlib.Core.Logic.{_⊎_, inl, inr, ⊎-elim}
@@ -10,9 +10,10 @@ use lib.ListN.{length, getD, drop}
 use lib.Seq.{slice, slice-cons, slice-empty, take-length}
 use Rattle.book.specs.Language.{Rules, upFrom}
 use Rattle.stretches.specs.Candidates.{Stretch, ruleOf, taken}
-use Rattle.stretches.specs.Output.{Mark, marks, keptMarks, wordMarks, ruleWord, written, rewriting, symbolsOf, originsOf}
+use Rattle.stretches.specs.Output.{Mark, keptMarks, wordMarks, ruleWord, written, rewriting, symbolsOf, originsOf}
 use Rattle.stretches.specs.Account.{Line, each, account}
-use Rattle.stretches.specs.Sentences.{Takes, takenLines, Chain, keptFrom, replace, covered, keptSymbols, writtenWords, Shuffled, none, left, right, symbolsFrom, wordOrigins, originsFrom, Traced, kept, replaced}
+use Rattle.stretches.specs.Sentences.{Takes, takenLines, Chain, keptFrom, replace, covered, keptSymbols, writtenWords}
+use Rattle.stretches.specs.Sentences.{Shuffled, none, left, right, symbolsFrom, wordOrigins, originsFrom, Traced, kept, replaced}
 use Rattle.stretches.proofs.Lists.{each-out}
 use Rattle.stretches.proofs.Stretches.{each-walked, taken-walked}
 use Rattle.stretches.proofs.Replaced.{rewriting-account}
@@ -53,8 +54,10 @@ replace-origins b t a (l ∷ ls) =
     (origins-append w (replace b t (l .end) ls)
     ∙ ap₂ (λ (x y : List ℕ). x ++ y) (origins-word (ruleWord b (l .rule)) (l .start) (l .end)) (replace-origins b t (l .end) ls))
 
-replace-symbols : (b : Rules) (t : List ℕ) (a : ℕ) (ls : List Line) → a ≤ length t → Chain t a ls → symbolsOf (replace b t a ls) ≡ symbolsFrom b t a ls
-replace-symbols b t a [] h c = symbols-kept t a (length t - a) (length t) (omega arith) (omega arith) ∙ ap (drop a) (take-length t)
+replace-symbols : (b : Rules) (t : List ℕ) (a : ℕ) (ls : List Line) → a ≤ length t → Chain t a ls
+    → symbolsOf (replace b t a ls) ≡ symbolsFrom b t a ls
+replace-symbols b t a [] h c =
+    symbols-kept t a (length t - a) (length t) (omega arith) (omega arith) ∙ ap (drop a) (take-length t)
 replace-symbols b t a (l ∷ ls) h c =
     let w = wordMarks (ruleWord b (l .rule)) (l .start) (l .end) in
     let p = c .0 in
@@ -85,7 +88,8 @@ kept-out false x i m z = (refl, List·Memᴰ·eq-of-singleton z)
 
 module _ (b : Rules) (t : List ℕ) where
   pub rewriting-symbols : symbolsOf (rewriting b t) ≡ symbolsFrom b t 0 (takenLines (account b t))
-  rewriting-symbols = ap symbolsOf (rewriting-account b t) ∙ replace-symbols b t 0 (takenLines (account b t)) (omega arith) (taken-chain b t)
+  rewriting-symbols =
+      ap symbolsOf (rewriting-account b t) ∙ replace-symbols b t 0 (takenLines (account b t)) (omega arith) (taken-chain b t)
 
   pub rewriting-origins : originsOf (rewriting b t) ≡ originsFrom b t 0 (takenLines (account b t))
   rewriting-origins = ap originsOf (rewriting-account b t) ∙ replace-origins b t 0 (takenLines (account b t))
@@ -98,9 +102,13 @@ module _ (b : Rules) (t : List ℕ) where
       let v = kept-out (covered (taken b t) i) (getD t i 0) i m (u .3) in
       subst (Traced b t) (sym (v .1)) (kept (omega arith) (v .0) refl)
 
-  word-of : (ds : List Stretch) (m : Mark) → List·Memᴰ m (writtenWords b t ds) → (d : Stretch) × List·Memᴰ d ds × List·Memᴰ m (written b t (d .start) (d .end))
+  word-of : (ds : List Stretch) (m : Mark) → List·Memᴰ m (writtenWords b t ds)
+      → (d : Stretch) × List·Memᴰ d ds × List·Memᴰ m (written b t (d .start) (d .end))
   word-of [] m z = elim z [ ]
-  word-of (d ∷ ds) m z = ⊎-elim (λ u. (d, List·Memᴰ·head refl, u)) (λ u. let v = word-of ds m u in (v .0, List·Memᴰ·tail (v .1), v .2)) (List·Memᴰ·append-cases (written b t (d .start) (d .end)) z)
+  word-of (d ∷ ds) m z =
+      ⊎-elim (λ u. (d, List·Memᴰ·head refl, u))
+      (λ u. let v = word-of ds m u in (v .0, List·Memᴰ·tail (v .1), v .2))
+      (List·Memᴰ·append-cases (written b t (d .start) (d .end)) z)
 
   word-traced : (m : Mark) → List·Memᴰ m (writtenWords b t (taken b t)) → Traced b t m
   word-traced m z =

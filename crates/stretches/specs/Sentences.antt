@@ -166,7 +166,8 @@ wordOrigins n i j = replicate n i
 -- "a kept symbol its own position", and the words in their places, from position a on
 abbrev pub originsFrom : Rules → List ℕ → ℕ → List Line → List ℕ
 originsFrom b t a [] = upFrom a (length t - a)
-originsFrom b t a (l ∷ ls) = upFrom a (l .start - a) ++ (wordOrigins (length (ruleWord b (l .rule))) (l .start) (l .end) ++ originsFrom b t (l .end) ls)
+originsFrom b t a (l ∷ ls) =
+    upFrom a (l .start - a) ++ (wordOrigins (length (ruleWord b (l .rule))) (l .start) (l .end) ++ originsFrom b t (l .end) ls)
 
 -- what one output symbol is: a symbol that no taken stretch covers, with its own position; or one of the word of a taken stretch, with that
 -- stretch's start
