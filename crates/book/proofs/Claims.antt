@@ -1,6 +1,6 @@
 -- What holds of CHECK beside its contract, and what the layers above may rely on, each stated over `checkDef` and `bookOf`. The walk over
 -- the records of an accepted book, each with its place and content, is `Walk` of Walk.antt; the record of each state is `Found` of
--- Placing.antt. Assumes nothing.
+-- Placing.antt. That the contract determines the answer is `one-result` of One.antt. Assumes nothing.
 use Prim.Native.Nat.{ℕ, zero, suc, _+_, _≤_, _<_}
 use mathlib.Core.Path.{_≡_, refl, sym, subst, _∙_}
 use mathlib.Core.List.{List}
@@ -9,7 +9,6 @@ use lib.ListN.{length}
 use lib.Dec.{eqb}
 use borrow.Author.Tests.{eqb-false}
 use native.Mathlib.Omega.{arith}
-use Rattle.book.specs.declared.Checked.{Checked}
 use Rattle.book.specs.Format.{byte, endReply, kindReply}
 use Rattle.book.specs.Reading.{Book, empty, scanOf, accepted, readFrom, readBook, answer, checkDef, bookOf}
 use Rattle.book.specs.Language.{stateOf}
@@ -19,10 +18,6 @@ use Rattle.book.proofs.Accepted.{Next, last, more, next, never, is-acce
 use Rattle.book.proofs.Sound.{accepted-sound}
 use Rattle.book.proofs.Walk.{walk-start}
 use Rattle.book.proofs.Placing.{Found, found}
-
--- two answers that check's contract allows are equal
-pub one-result : (s : List ℕ) (r q : Checked) → r ≡ checkDef s → q ≡ checkDef s → r ≡ q
-one-result s r q e f = e ∙ sym f
 
 -- the end record passes its test after a rule alone
 end-rule : (s : List ℕ) (at : ℕ) (b : Book) → kindReply s at (scanOf b) ≡ 0 → byte s at ≡ 4 → 0 < length (b .words)

@@ -12,3 +12,4 @@ pub mod Walk
 pub mod Placing
 pub mod Masking
 pub mod Claims
+pub mod One

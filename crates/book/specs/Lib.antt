@@ -7,3 +7,4 @@ pub mod Outline
 pub mod Sound
 pub mod House
 pub mod Examples
+pub mod Determined
