@@ -54,8 +54,8 @@ __asm__(
 /* The input at hand, and what the operations are lent. */
 static uint8_t book[ROOM], tape[ROOM];
 static size_t book_length, tape_length;
-static uint8_t rows[QAFRENDI_ROWS];
-static uint64_t sets[QAFRENDI_SETS];
+static uint8_t rows[QAFRENDI_ROW_BYTES];
+static uint64_t sets[QAFRENDI_SET_WORDS];
 static uint8_t scratch[QAFRENDI_SCRATCH];
 static uint8_t out[QAFRENDI_LONGEST_OUT];
 static uint16_t origins[QAFRENDI_LONGEST_OUT];
@@ -68,20 +68,20 @@ static void check(function *f)
 
 static void build(function *f)
 {
-    ((__typeof__(qafrendi_build) *)f)(book, book_length, rows, QAFRENDI_ROWS, sets, QAFRENDI_SETS);
+    ((__typeof__(qafrendi_build) *)f)(book, book_length, rows, QAFRENDI_ROW_BYTES, sets, QAFRENDI_SET_WORDS);
 }
 
 static void rewrite(function *f)
 {
     ((__typeof__(qafrendi_rewrite) *)f)(
-        book, book_length, tape, tape_length, rows, QAFRENDI_ROWS, sets, QAFRENDI_SETS, scratch, QAFRENDI_SCRATCH,
+        book, book_length, tape, tape_length, rows, QAFRENDI_ROW_BYTES, sets, QAFRENDI_SET_WORDS, scratch, QAFRENDI_SCRATCH,
         out, QAFRENDI_LONGEST_OUT, origins, QAFRENDI_LONGEST_OUT);
 }
 
 static void account(function *f)
 {
     ((__typeof__(qafrendi_account) *)f)(
-        book, book_length, tape, tape_length, rows, QAFRENDI_ROWS, sets, QAFRENDI_SETS, scratch, QAFRENDI_SCRATCH,
+        book, book_length, tape, tape_length, rows, QAFRENDI_ROW_BYTES, sets, QAFRENDI_SET_WORDS, scratch, QAFRENDI_SCRATCH,
         lines, QAFRENDI_LINE_WORDS * LINES);
 }
 

@@ -1,5 +1,6 @@
 /* The house book and the lane-four wave through the C face: every function once, then what three refusals leave. */
 #include <stdio.h>
+#include <stdlib.h>
 
 #include "qafrendi.h"
 
@@ -20,18 +21,23 @@ static const uint8_t house[] = {
 /* ripple, press, release, quiet, quiet */
 static const uint8_t tape[] = {1, 2, 4, 0, 0};
 
-enum { BOOK = sizeof house, TAPE = sizeof tape, OUT = 8, LINES = 15, OLD = 77 };
+enum { BOOK = sizeof house, TAPE = sizeof tape, OUT = 8, LINES = 3, WORDS = LINES * QAFRENDI_LINE_WORDS, OLD = 77 };
 
-static uint8_t rows[QAFRENDI_ROWS];
-static uint64_t sets[QAFRENDI_SETS];
+static uint8_t rows[QAFRENDI_ROW_BYTES];
+static uint64_t sets[QAFRENDI_SET_WORDS];
 static uint8_t scratch[QAFRENDI_SCRATCH];
 static uint8_t out[OUT];
 static uint16_t origins[OUT];
-static uint16_t lines[LINES];
+static uint16_t lines[WORDS];
 
-static void say(const char *name, unsigned reply, size_t place)
+/* prints an answer's reply and place; a reply other than the expected one ends the program */
+static void say(const char *name, unsigned reply, unsigned expected, size_t place)
 {
     printf("%s: reply %u at %zu", name, reply, place);
+    if (reply != expected) {
+        printf(", and not %u\n", expected);
+        exit(1);
+    }
 }
 
 static qafrendi_rewritten rewrite(const uint8_t *t, size_t n, size_t room)
@@ -40,7 +46,8 @@ static qafrendi_rewritten rewrite(const uint8_t *t, size_t n, size_t room)
         out[i] = OLD;
         origins[i] = OLD;
     }
-    return qafrendi_rewrite(house, BOOK, t, n, rows, QAFRENDI_ROWS, sets, QAFRENDI_SETS, scratch, QAFRENDI_SCRATCH, out, room, origins, room);
+    return qafrendi_rewrite(
+        house, BOOK, t, n, rows, QAFRENDI_ROW_BYTES, sets, QAFRENDI_SET_WORDS, scratch, QAFRENDI_SCRATCH, out, room, origins, room);
 }
 
 static void print_out(qafrendi_rewritten r)
@@ -57,28 +64,30 @@ static void print_out(qafrendi_rewritten r)
 int main(void)
 {
     qafrendi_checked c = qafrendi_check(house, BOOK);
-    say("check", c.reply, c.place);
+    say("check", c.reply, QAFRENDI_ACCEPTED, c.place);
     printf(", %zu rules, %zu states, %zu arcs\n", c.rules, c.states, c.arcs);
 
-    qafrendi_built b = qafrendi_build(house, BOOK, rows, QAFRENDI_ROWS, sets, QAFRENDI_SETS);
-    say("build", b.reply, b.place);
+    qafrendi_built b = qafrendi_build(house, BOOK, rows, QAFRENDI_ROW_BYTES, sets, QAFRENDI_SET_WORDS);
+    say("build", b.reply, QAFRENDI_ACCEPTED, b.place);
     printf(", %zu left sets, %zu right sets, the first %#llx and %#llx\n", b.left, b.right, (unsigned long long)sets[0],
-           (unsigned long long)sets[QAFRENDI_SETS / 2]);
+           (unsigned long long)sets[QAFRENDI_MOST_SETS]);
 
     qafrendi_rewritten w = rewrite(tape, TAPE, OUT);
-    say("rewrite", w.reply, w.place);
+    say("rewrite", w.reply, QAFRENDI_ACCEPTED, w.place);
     print_out(w);
+    size_t needed = w.length;
 
-    for (int i = 0; i < LINES; i++)
+    for (int i = 0; i < WORDS; i++)
         lines[i] = OLD;
-    qafrendi_accounted a = qafrendi_account(house, BOOK, tape, TAPE, rows, QAFRENDI_ROWS, sets, QAFRENDI_SETS, scratch, QAFRENDI_SCRATCH, lines, LINES);
-    say("account", a.reply, a.place);
+    qafrendi_accounted a = qafrendi_account(
+        house, BOOK, tape, TAPE, rows, QAFRENDI_ROW_BYTES, sets, QAFRENDI_SET_WORDS, scratch, QAFRENDI_SCRATCH, lines, WORDS);
+    say("account", a.reply, QAFRENDI_ACCEPTED, a.place);
     printf(", %zu candidates; lines", a.candidates);
-    for (int i = 0; i < LINES; i++)
+    for (int i = 0; i < WORDS; i++)
         printf(" %d", lines[i]);
     printf("\n");
 
-    for (size_t line = 0; line < 3; line++) {
+    for (size_t line = 0; line < LINES; line++) {
         qafrendi_stretch s = qafrendi_show(TAPE, lines, QAFRENDI_LINE_WORDS * a.candidates, line);
         printf("show %zu: %zu to %zu:", line, s.start, s.end);
         for (size_t i = s.start; i < s.end; i++)
@@ -88,14 +97,14 @@ int main(void)
 
     /* refusals: the book cut in its last arc, a symbol that is none, and an output that is one symbol too short */
     c = qafrendi_check(house, BOOK - 2);
-    say("cut book", c.reply, c.place);
+    say("cut book", c.reply, QAFRENDI_CUT, c.place);
     printf(", %zu rules, %zu states, %zu arcs\n", c.rules, c.states, c.arcs);
-    static const uint8_t capital[] = {1, 2, 16};
-    w = rewrite(capital, sizeof capital, OUT);
-    say("no symbol", w.reply, w.place);
+    static const uint8_t no_symbol[] = {1, 2, QAFRENDI_SYMBOLS};
+    w = rewrite(no_symbol, sizeof no_symbol, OUT);
+    say("no symbol", w.reply, QAFRENDI_BAD_SYMBOL, w.place);
     print_out(w);
-    w = rewrite(tape, TAPE, 3);
-    say("short output", w.reply, w.place);
+    w = rewrite(tape, TAPE, needed - 1);
+    say("short output", w.reply, QAFRENDI_NO_ROOM, w.place);
     print_out(w);
     return 0;
 }

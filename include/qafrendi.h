@@ -9,25 +9,7 @@
  * buffer of the call, and nothing else reads or writes it meanwhile. Nothing is owed of the data: no book and no tape needs a look
  * before it is handed over.
  *
- * Every answer has a reply and a place.
- *
- *   reply  given when                                                           place
- *    0     accepted                                                             0
- *    1     the book stops before a kind byte or inside a body                   that record's offset
- *    2     unknown kind                                                         offset
- *    3     17th rule, 65th state or 513th arc                                   offset
- *    4     state, arc or end before any rule                                    offset
- *    5     a field outside its range, a symbol above 15, lowest above highest   offset
- *    6     an arc names a state not yet given in the latest rule, or two parts  offset
- *    7     a focus state has flags 3                                            offset
- *    8     a byte follows the end record                                        its offset
- *    9     tape longer than 4,096                                               0
- *   10     a tape symbol above 15                                               first such position
- *   11     workspace too short, either piece                                    0
- *   12     scratch shorter than tape_length + 1                                 0
- *   13     more than 256 left sets                                              0
- *   14     more than 256 right sets                                             0
- *   15     no room for the output or the account                                symbols or words needed
+ * Every answer has a reply and a place; the replies are listed below, with the place that each gives.
  *
  * Tested in this order: records from the front, in one record a missing kind 1, then 2, a cut body 1, then 4, 3, 5, 6, 7; after the
  * book 9, 10, 11, 12, 13, 14, 15. Counts are 0 on every refusal. 1 to 12 change no buffer. 13 and 14 leave the workspace all 0 and
@@ -47,14 +29,54 @@
 extern "C" {
 #endif
 
-/* Enough for every call: the two pieces of the workspace, the scratch, and the output of the longest tape. */
+/* The limits, and what is enough for every call: the two pieces of the workspace, the scratch, and the output of the longest tape. */
 enum {
+    QAFRENDI_SYMBOLS = 16,
+    QAFRENDI_LONGEST_WORD = 8,
     QAFRENDI_LONGEST_TAPE = 4096,
-    QAFRENDI_ROWS = 8192,
-    QAFRENDI_SETS = 512,
+    QAFRENDI_MOST_SETS = 256,                                     /* a side */
+    QAFRENDI_ROW_BYTES = 2 * QAFRENDI_SYMBOLS * QAFRENDI_MOST_SETS, /* both sides, left and then right */
+    QAFRENDI_SET_WORDS = 2 * QAFRENDI_MOST_SETS,
     QAFRENDI_SCRATCH = QAFRENDI_LONGEST_TAPE + 1,
-    QAFRENDI_LONGEST_OUT = 8 * QAFRENDI_LONGEST_TAPE,
+    QAFRENDI_LONGEST_OUT = QAFRENDI_LONGEST_WORD * QAFRENDI_LONGEST_TAPE,
     QAFRENDI_LINE_WORDS = 5
+};
+
+/* Replies                            given when                                                           place */
+enum {
+    QAFRENDI_ACCEPTED = 0,         /* accepted                                                             0 */
+    QAFRENDI_CUT = 1,              /* the book stops before a kind byte or inside a body                   that record's offset */
+    QAFRENDI_UNKNOWN_KIND = 2,     /* unknown kind                                                         offset */
+    QAFRENDI_TOO_MANY = 3,         /* 17th rule, 65th state or 513th arc                                   offset */
+    QAFRENDI_NO_RULE = 4,          /* state, arc or end before any rule                                    offset */
+    QAFRENDI_BAD_FIELD = 5,        /* a field outside its range, a symbol above 15, lowest above highest   offset */
+    QAFRENDI_BAD_ARC = 6,          /* an arc names a state not yet given in the latest rule, or two parts  offset */
+    QAFRENDI_EMPTY_FOCUS = 7,      /* a focus state has flags 3                                            offset */
+    QAFRENDI_AFTER_END = 8,        /* a byte follows the end record                                        its offset */
+    QAFRENDI_LONG_TAPE = 9,        /* tape longer than 4,096                                               0 */
+    QAFRENDI_BAD_SYMBOL = 10,      /* a tape symbol above 15                                               first such position */
+    QAFRENDI_SHORT_WORKSPACE = 11, /* workspace too short, either piece                                    0 */
+    QAFRENDI_SHORT_SCRATCH = 12,   /* scratch shorter than tape_length + 1                                 0 */
+    QAFRENDI_MANY_LEFT_SETS = 13,  /* more than 256 left sets                                              0 */
+    QAFRENDI_MANY_RIGHT_SETS = 14, /* more than 256 right sets                                             0 */
+    QAFRENDI_NO_ROOM = 15          /* no room for the output or the account                                symbols or words needed */
+};
+
+/* The words of a line of an account, in their order. */
+enum {
+    QAFRENDI_RULE = 0,
+    QAFRENDI_START = 1,
+    QAFRENDI_END = 2,
+    QAFRENDI_VERDICT = 3,
+    QAFRENDI_DECIDING_START = 4 /* of the taken stretch */
+};
+
+/* Verdicts. */
+enum {
+    QAFRENDI_TAKEN = 0,
+    QAFRENDI_SHORTER = 1,          /* shorter than the taken one at the same start */
+    QAFRENDI_LOWER_RULE_TAKEN = 2, /* same stretch, lower rule taken */
+    QAFRENDI_INSIDE = 3            /* start strictly inside a taken stretch */
 };
 
 typedef struct {
@@ -86,7 +108,7 @@ typedef struct {
 qafrendi_checked qafrendi_check(const uint8_t *book, size_t book_length);
 
 /* BUILD: the two automata of a book, and how many sets each has. Replies 0 to 8, 11, 13, 14.
- * Needs rows of 8,192 and sets of 512 elements or more.
+ * Needs rows of QAFRENDI_ROW_BYTES and sets of QAFRENDI_SET_WORDS elements or more.
  * Writes those front parts: 256 rows of 16 next numbers a side and 256 sets a side, left and then right, 0 past a side's count.
  * Never touches the book, nor the elements past those parts. */
 qafrendi_built qafrendi_build(
@@ -111,10 +133,9 @@ qafrendi_rewritten qafrendi_rewrite(
     uint16_t *origins, size_t origins_length);
 
 /* ACCOUNT: every stretch that any rule could have replaced, and what became of it; the number of candidates. All replies.
- * Needs workspace and scratch as REWRITE does, and five words a candidate.
- * Writes workspace and scratch as REWRITE does, and, accepted, the first 5 * candidates words of lines: rule, start, end, verdict,
- * deciding start, in the order of start, end, rule. Verdicts: 0 taken; 1 shorter than the taken one at the same start; 2 same
- * stretch, lower rule taken; 3 start strictly inside a taken stretch. The deciding start is that of the taken stretch.
+ * Needs workspace and scratch as REWRITE does, and QAFRENDI_LINE_WORDS words a candidate.
+ * Writes workspace and scratch as REWRITE does, and, accepted, the first QAFRENDI_LINE_WORDS * candidates words of lines: a line a
+ * candidate, in the order of start, end, rule.
  * Never touches the book, the tape, nor the elements past those. */
 qafrendi_accounted qafrendi_account(
     const uint8_t *book, size_t book_length,

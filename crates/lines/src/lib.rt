@@ -22,7 +22,7 @@ ghost use Rattle.lines.specs.Lines.{hitCount, startCount};
 mod writing; // writing.rt: the lines of the account, one after the other
 
 // The words of a line of an account: rule, start, end, verdict, deciding start.
-pub const LINE: usize = 5;
+pub const LINE_WORDS: usize = 5;
 
 // ACCOUNT's answer: the number of candidates.
 pub struct Accounted {
@@ -127,10 +127,10 @@ fn count_and_write<'a>(
     ensures { λ r. ⌜ linesLeave r (now (lines .exit)) ≡ linesDef (rulesIn (now (book .entry))) (now (tape .entry)) (now (lines .entry)) ⌝ }
 {
     let candidates = count(book, places, masks, rules, tape, rows, sets, scratch);
-    if lines.len() / LINE < candidates {
+    if lines.len() / LINE_WORDS < candidates {
         return Accounted {
             reply: 15,
-            place: LINE * candidates,
+            place: LINE_WORDS * candidates,
             candidates: 0,
         };
     }

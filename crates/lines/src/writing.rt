@@ -1,6 +1,6 @@
 // The lines of the account: for each start the ends in order, and for each end the rules. The walk from a start ends right after its last
 // candidate.
-use crate::LINE;
+use crate::LINE_WORDS;
 use sets::entries::left_entry;
 use sets::entries::right_set;
 use stretches::outline::ALL_ACCEPTS;
@@ -65,7 +65,7 @@ fn put_line(
     lines[at + 2] = end;
     lines[at + 3] = verdict;
     lines[at + 4] = deciding;
-    at + LINE
+    at + LINE_WORDS
 }
 
 // The line of one rule at one end, where it passes.

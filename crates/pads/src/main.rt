@@ -6,16 +6,23 @@ ghost use Rattle.pads.specs.Hex.{symbolOf};
 
 mod print; // print.rt: the lines printed
 
+use book::SYMBOLS;
 use libc::STDIN_FILENO;
+use rewriter::LONGEST_TAPE;
+
+// The bytes of one read, and the bytes printed at once.
+const CHUNK: usize = 65536;
 
 // The symbols that are kept of a line: one more than a tape may have, which is all that its refusal asks.
-const KEPT: usize = 4097;
+const KEPT: usize = LONGEST_TAPE + 1;
+
+const SCRATCH: usize = LONGEST_TAPE + 1;
+
+// The house book's words have one symbol and its foci one or more, so that no output is longer than its tape.
+const OUT: usize = LONGEST_TAPE;
 
 // "It gives the account 6,000 words."
 const ACCOUNT: usize = 6000;
-
-// The longest output: each symbol of a longest tape replaced by a longest word.
-const LONGEST: usize = 32768;
 
 // What a chunk gave from a place on: the next place, the symbols held, and whether a line ended.
 struct Fed {
@@ -30,11 +37,17 @@ struct Held {
     used: usize,
 }
 
-// What is held after a step, and whether to go on: to the account of the tape, or to the next read.
+// What is held after a read, and whether to read on.
 struct Step {
     n: usize,
     used: usize,
     more: bool,
+}
+
+// After REWRITE's lines: the text's next place, and whether the tape was accepted, so that its account follows.
+struct Rewrote {
+    used: usize,
+    accepted: bool,
 }
 
 // The symbol of a character.
@@ -44,7 +57,7 @@ fn symbol(b: u8) -> u8
     match b {
         b'0'..=b'9' => b - b'0',
         b'a'..=b'f' => b - (b'a' - 10),
-        _ => 16,
+        _ => SYMBOLS,
     }
 }
 
@@ -75,98 +88,73 @@ fn feed(chunk: &[u8], from: usize, tape: &mut [u8], had: usize) -> Fed
 }
 
 // The lines of REWRITE: W and O, or X.
-fn rewrite_tape(
-    text: &mut [u8],
-    used: usize,
-    book: &[u8],
-    tape: &[u8],
-    rows: &mut [u8],
-    sets: &mut [u64],
-    scratch: &mut [u8],
-    out: &mut [u8],
-    origins: &mut [u16],
-) -> Step
+fn rewrite_tape(text: &mut [u8], used: usize, tape: &[u8]) -> Rewrote
     requires { ⌜ used < length (now text) ⌝ }
     ensures { λ r. ⌜ r .used < length (now (text .entry)) ⌝ }
 {
-    let r = rewriter::rewrite(book, tape, rows, sets, scratch, out, origins);
+    let book = house::house_book();
+    let mut rows = [0u8; sets::ROW_BYTES];
+    let mut sets = [0u64; sets::SET_WORDS];
+    let mut scratch = [0u8; SCRATCH];
+    let mut out = [0u8; OUT];
+    let mut origins = [0u16; OUT];
+    let r = rewriter::rewrite(
+        &book,
+        tape,
+        &mut rows,
+        &mut sets,
+        &mut scratch,
+        &mut out,
+        &mut origins,
+    );
     let reply = r.reply;
     if reply != 0 {
         let at = print::put_refusal(text, used, reply as u64, r.place as u64);
-        return Step {
-            n: 0,
+        return Rewrote {
             used: at,
-            more: false,
+            accepted: false,
         };
     }
     let n = r.length;
     let at = print::put_output(text, used, r.taken as u64, &out[..n], &origins[..n]);
-    Step {
-        n: 0,
+    Rewrote {
         used: at,
-        more: true,
+        accepted: true,
     }
 }
 
 // The lines of ACCOUNT: a C line for each candidate, or X.
-fn account_tape(
-    text: &mut [u8],
-    used: usize,
-    book: &[u8],
-    tape: &[u8],
-    rows: &mut [u8],
-    sets: &mut [u64],
-    scratch: &mut [u8],
-    lines: &mut [u16],
-) -> usize
+fn account_tape(text: &mut [u8], used: usize, tape: &[u8]) -> usize
     requires { ⌜ used < length (now text) ⌝ }
     ensures { λ r. ⌜ r < length (now (text .entry)) ⌝ }
 {
-    let r = rewriter::account(book, tape, rows, sets, scratch, lines);
+    let book = house::house_book();
+    let mut rows = [0u8; sets::ROW_BYTES];
+    let mut sets = [0u64; sets::SET_WORDS];
+    let mut scratch = [0u8; SCRATCH];
+    let mut lines = [0u16; ACCOUNT];
+    let r = rewriter::account(&book, tape, &mut rows, &mut sets, &mut scratch, &mut lines);
     let reply = r.reply;
     if reply != 0 {
         return print::put_refusal(text, used, reply as u64, r.place as u64);
     }
-    print::put_account(text, used, lines, r.candidates)
+    print::put_account(text, used, &lines, r.candidates)
 }
 
 // All lines of one tape. "A refusal prints X, number, place, and ends that tape; for a short account it follows W and O."
-fn answer(
-    text: &mut [u8],
-    used: usize,
-    book: &[u8],
-    tape: &[u8],
-    rows: &mut [u8],
-    sets: &mut [u64],
-    scratch: &mut [u8],
-    out: &mut [u8],
-    origins: &mut [u16],
-    lines: &mut [u16],
-) -> usize
+fn answer(text: &mut [u8], used: usize, tape: &[u8]) -> usize
     requires { ⌜ used < length (now text) ⌝ }
     ensures { λ r. ⌜ r < length (now (text .entry)) ⌝ }
 {
-    let w = rewrite_tape(text, used, book, tape, rows, sets, scratch, out, origins);
-    if w.more {
-        return account_tape(text, w.used, book, tape, rows, sets, scratch, lines);
+    let w = rewrite_tape(text, used, tape);
+    if w.accepted {
+        return account_tape(text, w.used, tape);
     }
     w.used
 }
 
 // Answers each line that ends in the chunk.
-fn answer_lines(
-    chunk: &[u8],
-    tape: &mut [u8],
-    text: &mut [u8],
-    held: Held,
-    book: &[u8],
-    rows: &mut [u8],
-    sets: &mut [u64],
-    scratch: &mut [u8],
-    out: &mut [u8],
-    origins: &mut [u16],
-    lines: &mut [u16],
-) -> Held
+fn answer_lines(chunk: &[u8], tape: &mut [u8], text: &mut [u8], held: Held) -> Held
     requires { ⌜ (held .n ≤ length (now tape)) × (held .used < length (now text)) ⌝ }
     ensures { λ r. ⌜ (r .n ≤ length (now (tape .entry))) × (r .used < length (now (text .entry))) ⌝ }
 {
@@ -178,18 +166,7 @@ fn answer_lines(
         at = f.at;
         n = f.n;
         if f.ended {
-            used = answer(
-                text,
-                used,
-                book,
-                &tape[..n],
-                rows,
-                sets,
-                scratch,
-                out,
-                origins,
-                lines,
-            );
+            used = answer(text, used, &tape[..n]);
             n = 0;
         }
     }
@@ -197,19 +174,7 @@ fn answer_lines(
 }
 
 // One read, and the lines that end in it.
-fn read_some(
-    chunk: &mut [u8],
-    tape: &mut [u8],
-    text: &mut [u8],
-    held: Held,
-    book: &[u8],
-    rows: &mut [u8],
-    sets: &mut [u64],
-    scratch: &mut [u8],
-    out: &mut [u8],
-    origins: &mut [u16],
-    lines: &mut [u16],
-) -> Step
+fn read_some(chunk: &mut [u8], tape: &mut [u8], text: &mut [u8], held: Held) -> Step
     requires { ⌜ (held .n ≤ length (now tape)) × (held .used < length (now text)) ⌝ }
     ensures { λ r. ⌜ (r .n ≤ length (now (tape .entry))) × (r .used < length (now (text .entry))) ⌝ }
 {
@@ -222,19 +187,7 @@ fn read_some(
         };
     }
     let k = io::count(got, chunk);
-    let r = answer_lines(
-        &chunk[..k],
-        tape,
-        text,
-        held,
-        book,
-        rows,
-        sets,
-        scratch,
-        out,
-        origins,
-        lines,
-    );
+    let r = answer_lines(&chunk[..k], tape, text, held);
     Step {
         n: r.n,
         used: r.used,
@@ -243,34 +196,12 @@ fn read_some(
 }
 
 // "A last line needs no newline." An empty one is no line. Then what is left of the text goes out.
-fn finish(
-    tape: &[u8],
-    text: &mut [u8],
-    held: Held,
-    book: &[u8],
-    rows: &mut [u8],
-    sets: &mut [u64],
-    scratch: &mut [u8],
-    out: &mut [u8],
-    origins: &mut [u16],
-    lines: &mut [u16],
-)
+fn finish(tape: &[u8], text: &mut [u8], held: Held)
     requires { ⌜ (held .n ≤ length (now tape)) × (held .used < length (now text)) ⌝ }
 {
     let n = held.n;
     if 0 < n {
-        let used = answer(
-            text,
-            held.used,
-            book,
-            &tape[..n],
-            rows,
-            sets,
-            scratch,
-            out,
-            origins,
-            lines,
-        );
+        let used = answer(text, held.used, &tape[..n]);
         text::flush(text, used);
     } else {
         text::flush(text, held.used);
@@ -278,37 +209,14 @@ fn finish(
 }
 
 // Reads to the end. Nothing says that the input ends, so the reads are counted down from a number that no run uses up.
-fn run(
-    chunk: &mut [u8],
-    tape: &mut [u8],
-    text: &mut [u8],
-    book: &[u8],
-    rows: &mut [u8],
-    sets: &mut [u64],
-    scratch: &mut [u8],
-    out: &mut [u8],
-    origins: &mut [u16],
-    lines: &mut [u16],
-)
+fn run(chunk: &mut [u8], tape: &mut [u8], text: &mut [u8])
     requires { ⌜ 0 < length (now text) ⌝ }
 {
     let mut n = 0;
     let mut used = 0;
     let mut reads = u64::MAX;
     while reads > 0 {
-        let s = read_some(
-            chunk,
-            tape,
-            text,
-            Held { n, used },
-            book,
-            rows,
-            sets,
-            scratch,
-            out,
-            origins,
-            lines,
-        );
+        let s = read_some(chunk, tape, text, Held { n, used });
         n = s.n;
         used = s.used;
         if s.more {
@@ -317,41 +225,12 @@ fn run(
             reads = 0;
         }
     }
-    finish(
-        tape,
-        text,
-        Held { n, used },
-        book,
-        rows,
-        sets,
-        scratch,
-        out,
-        origins,
-        lines,
-    );
+    finish(tape, text, Held { n, used });
 }
 
 fn main() {
-    let book = house::house_book();
-    let mut chunk = [0u8; 65536];
+    let mut chunk = [0u8; CHUNK];
     let mut tape = [0u8; KEPT];
-    let mut text = [0u8; 65536];
-    let mut rows = [0u8; 8192];
-    let mut sets = [0u64; 512];
-    let mut scratch = [0u8; KEPT];
-    let mut out = [0u8; LONGEST];
-    let mut origins = [0u16; LONGEST];
-    let mut lines = [0u16; ACCOUNT];
-    run(
-        &mut chunk,
-        &mut tape,
-        &mut text,
-        &book,
-        &mut rows,
-        &mut sets,
-        &mut scratch,
-        &mut out,
-        &mut origins,
-        &mut lines,
-    );
+    let mut text = [0u8; CHUNK];
+    run(&mut chunk, &mut tape, &mut text);
 }

@@ -4,9 +4,7 @@ ghost use Prim.Native.Nat.{_*_, _≤_, _<_};
 ghost use lib.ListN.{length};
 ghost use Rattle.stretches.specs.Account.{lineLength};
 ghost use Rattle.pads.specs.Hex.{digitOf};
-
-// The words of a line of the account.
-pub(crate) const WORDS: usize = 5;
+use rewriter::LINE_WORDS;
 
 // The character of a symbol.
 fn digit(s: u8) -> u8
@@ -130,8 +128,8 @@ pub(crate) fn put_account(text: &mut [u8], used: usize, lines: &[u16], candidate
     let mut at = used;
     let mut i = 0;
     while i < candidates {
-        let from = i * WORDS;
-        let to = from + WORDS;
+        let from = i * LINE_WORDS;
+        let to = from + LINE_WORDS;
         at = put_c(text, at, &lines[from..to]);
         i += 1;
     }

@@ -7,13 +7,13 @@ mod ready; // ready.rt: what REWRITE and ACCOUNT share
 pub mod shown; // shown.rt: the stretch of the tape that a line of an account names
 
 pub use lines::Accounted;
-pub use lines::LINE;
+pub use lines::LINE_WORDS;
 pub use output::Rewritten;
 pub use shown::bounds_of;
 pub use shown::show;
 
 // "tape 0 to 4,096 symbols"
-pub const TAPE: usize = 4096;
+pub const LONGEST_TAPE: usize = 4096;
 
 // A reply with its place: 0 is no refusal.
 pub struct Refusal {

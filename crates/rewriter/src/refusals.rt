@@ -4,8 +4,8 @@ ghost use Rattle.book.specs.Reading.{checkDef};
 ghost use Rattle.rewriter.specs.Replies.{refusal, firstBad, early};
 ghost use Rattle.stretches.specs.Lists.{greatest};
 ghost use Rattle.rewriter.specs.Opening.{opened};
+use super::LONGEST_TAPE;
 use super::Refusal;
-use super::TAPE;
 
 // Whether a call is refused, and the number of the book's rules, which CHECK has counted.
 pub struct Opened {
@@ -65,7 +65,7 @@ pub(crate) fn early(book: &[u8], tape: &[u8], rows: usize, sets: usize, scratch:
     if checked.reply != 0 {
         return answer(checked.reply, checked.place, rules);
     }
-    if TAPE < tape.len() {
+    if LONGEST_TAPE < tape.len() {
         return answer(9, 0, rules);
     }
     let bad = first_bad(tape);

@@ -4,7 +4,7 @@ ghost use mathlib.Core.Path.{_≡_};
 ghost use Prim.Native.Nat.{_+_, _≤_};
 ghost use lib.ListN.{length};
 ghost use Rattle.rewriter.specs.Show.{boundsOf, showDef};
-use lines::LINE;
+use lines::LINE_WORDS;
 
 // A part of the tape: from start up to and not including end.
 pub struct Bounds {
@@ -23,10 +23,10 @@ pub fn bounds_of(n: usize, lines: &[u16], line: usize) -> Bounds
     ensures { λ r. ⌜ r ≡ boundsOf n (now (lines .entry)) line ⌝ }
     ensures { λ r. ⌜ (r .start ≤ r .end) × (r .end ≤ n) ⌝ }
 {
-    if lines.len() / LINE <= line {
+    if lines.len() / LINE_WORDS <= line {
         return Bounds { start: 0, end: 0 };
     }
-    let i = line * LINE;
+    let i = line * LINE_WORDS;
     let start = wide(lines[i + 1]);
     let end = wide(lines[i + 2]);
     if end <= start {

@@ -8,12 +8,11 @@ use Rattle.pads.proofs.answer_lines.Statement.{statement}
 use Rattle.pads.proofs.answer_lines.Tie as tie
 
 abbrev Inv-loop : tie.InvT-loop
-Inv-loop chunk tape₀ text₀ book rows₀ sets₀ scratch₀ out₀ origins₀ lines₀ n₀ used₀ at₀ tape text rows sets scratch out origins lines n used at =
-    (n ≤ length tape₀) × (used < length text₀) × (length tape ≡ length tape₀) × (length text ≡ length text₀) × (length rows ≡ length rows₀) × (length sets ≡ length sets₀) × (length scratch ≡ length scratch₀) × (length out ≡ length out₀) × (length origins ≡ length origins₀) × (length lines ≡ length lines₀)
+Inv-loop chunk tape₀ text₀ n₀ used₀ at₀ tape text n used at =
+    (n ≤ length tape₀) × (used < length text₀) × (length tape ≡ length tape₀) × (length text ≡ length text₀)
 
 abbrev μ-loop : tie.MeasureT-loop
-μ-loop chunk tape₀ text₀ book rows₀ sets₀ scratch₀ out₀ origins₀ lines₀ n₀ used₀ at₀ tape text rows sets scratch out origins lines n used at =
-    length chunk - at
+μ-loop chunk tape₀ text₀ n₀ used₀ at₀ tape text n used at = length chunk - at
 
 loop-holds : tie.Need-loop-holds Inv-loop μ-loop
 loop-holds c = search needs
@@ -48,24 +47,6 @@ same-length c = search needs
 same-length-2 : tie.Need-same-length-2 Inv-loop μ-loop
 same-length-2 c = search needs
 
-same-length-3 : tie.Need-same-length-3 Inv-loop μ-loop
-same-length-3 c = search needs
-
-same-length-4 : tie.Need-same-length-4 Inv-loop μ-loop
-same-length-4 c = search needs
-
-same-length-5 : tie.Need-same-length-5 Inv-loop μ-loop
-same-length-5 c = search needs
-
-same-length-6 : tie.Need-same-length-6 Inv-loop μ-loop
-same-length-6 c = search needs
-
-same-length-7 : tie.Need-same-length-7 Inv-loop μ-loop
-same-length-7 c = search needs
-
-same-length-8 : tie.Need-same-length-8 Inv-loop μ-loop
-same-length-8 c = search needs
-
 returns : tie.Need-returns Inv-loop μ-loop
 returns c = search needs
 
@@ -86,10 +67,4 @@ answer-lines-spec =
     loop-again-2
     same-length
     same-length-2
-    same-length-3
-    same-length-4
-    same-length-5
-    same-length-6
-    same-length-7
-    same-length-8
     returns)

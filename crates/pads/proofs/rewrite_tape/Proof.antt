@@ -6,6 +6,27 @@ use Rattle.pads.proofs.Fits.{fits-out, fits-origins}
 use Rattle.pads.proofs.rewrite_tape.Statement.{statement}
 use Rattle.pads.proofs.rewrite_tape.Tie as tie
 
+house-book-requires : tie.Need-house-book-requires
+house-book-requires c κs = search needs
+
+slice-aggregate-rewrite : tie.Need-slice-aggregate-rewrite
+slice-aggregate-rewrite c = search needs
+
+slice-aggregate-rewrite-2 : tie.Need-slice-aggregate-rewrite-2
+slice-aggregate-rewrite-2 c = search needs
+
+slice-aggregate-rewrite-3 : tie.Need-slice-aggregate-rewrite-3
+slice-aggregate-rewrite-3 c = search needs
+
+slice-aggregate-rewrite-4 : tie.Need-slice-aggregate-rewrite-4
+slice-aggregate-rewrite-4 c = search needs
+
+slice-aggregate-rewrite-5 : tie.Need-slice-aggregate-rewrite-5
+slice-aggregate-rewrite-5 c = search needs
+
+slice-aggregate-rewrite-6 : tie.Need-slice-aggregate-rewrite-6
+slice-aggregate-rewrite-6 c = search needs
+
 rewrite-requires : tie.Need-rewrite-requires
 rewrite-requires c κs = search needs
 
@@ -18,66 +39,30 @@ put-refusal-requires c κs = search needs
 same-length : tie.Need-same-length
 same-length c = search needs
 
-same-length-2 : tie.Need-same-length-2
-same-length-2 c = search needs
-
-same-length-3 : tie.Need-same-length-3
-same-length-3 c = search needs
-
-same-length-4 : tie.Need-same-length-4
-same-length-4 c = search needs
-
-same-length-5 : tie.Need-same-length-5
-same-length-5 c = search needs
-
-same-length-6 : tie.Need-same-length-6
-same-length-6 c = search needs
-
 returns : tie.Need-returns
 returns c = search needs
 
-slice-reshare-prefix-put-output : tie.Need-slice-reshare-prefix-put-output
-slice-reshare-prefix-put-output c =
-    let a = c .before .before .before .before .before .before .before .before .before .before .before .before .before .before .before .before .before .before .before .before .before .before .before .before .before .before .args in
-    fits-out (a .book .now) (a .tape .now) (a .rows .now) (a .sets .now) (a .scratch .now) (a .out .now) (a .origins .now) (c .before .before .before .before .before .before .before .before .before .before .before .before .rewrite .ensures)
+array-share-prefix-out : tie.Need-array-share-prefix-out
+array-share-prefix-out c =
+    fits-out _ _ _ _ _ _ _ (c .before .before .before .before .before .before .before .rewrite .ensures)
 
 slice-aggregate-put-output : tie.Need-slice-aggregate-put-output
 slice-aggregate-put-output c =
-    let a = c .before .before .before .before .before .before .before .before .before .before .before .before .before .before .before .before .before .before .before .before .before .before .before .before .before .before .before .args in
-    let h = fits-out (a .book .now) (a .tape .now) (a .rows .now) (a .sets .now) (a .scratch .now) (a .out .now) (a .origins .now) (c .before .before .before .before .before .before .before .before .before .before .before .before .before .rewrite .ensures) in
-    simp length-take (omega (arith, h))
+    simp length-take (omega (arith, fits-out _ _ _ _ _ _ _ (c .before .before .before .before .before .before .before .before .rewrite .ensures)))
 
-slice-reshare-prefix-put-output-2 : tie.Need-slice-reshare-prefix-put-output-2
-slice-reshare-prefix-put-output-2 c =
-    let a = c .before .before .before .before .before .before .before .before .before .before .before .before .before .before .before .before .before .before .before .before .before .before .before .before .before .before .before .args in
-    fits-origins (a .book .now) (a .tape .now) (a .rows .now) (a .sets .now) (a .scratch .now) (a .out .now) (a .origins .now) (c .before .before .before .before .before .before .before .before .before .before .before .before .before .rewrite .ensures)
+array-share-prefix-origins : tie.Need-array-share-prefix-origins
+array-share-prefix-origins c =
+    fits-origins _ _ _ _ _ _ _ (c .before .before .before .before .before .before .before .before .rewrite .ensures)
 
 slice-aggregate-put-output-2 : tie.Need-slice-aggregate-put-output-2
 slice-aggregate-put-output-2 c =
-    let a = c .before .before .before .before .before .before .before .before .before .before .before .before .before .before .before .before .before .before .before .before .before .before .before .before .before .before .before .before .args in
-    let h = fits-origins (a .book .now) (a .tape .now) (a .rows .now) (a .sets .now) (a .scratch .now) (a .out .now) (a .origins .now) (c .before .before .before .before .before .before .before .before .before .before .before .before .before .before .rewrite .ensures) in
-    simp length-take (omega (arith, h))
+    simp length-take (omega (arith, fits-origins _ _ _ _ _ _ _ (c .before .before .before .before .before .before .before .before .before .rewrite .ensures)))
 
 put-output-requires : tie.Need-put-output-requires
 put-output-requires c κs = search needs
 
-same-length-7 : tie.Need-same-length-7
-same-length-7 c = search needs
-
-same-length-8 : tie.Need-same-length-8
-same-length-8 c = search needs
-
-same-length-9 : tie.Need-same-length-9
-same-length-9 c = search needs
-
-same-length-10 : tie.Need-same-length-10
-same-length-10 c = search needs
-
-same-length-11 : tie.Need-same-length-11
-same-length-11 c = search needs
-
-same-length-12 : tie.Need-same-length-12
-same-length-12 c = search needs
+same-length-2 : tie.Need-same-length-2
+same-length-2 c = search needs
 
 returns-2 : tie.Need-returns-2
 returns-2 c = search needs
@@ -86,25 +71,22 @@ pub rewrite-tape-spec : {M : Type 1} → statement M
 rewrite-tape-spec =
     tie.close
     (tie.spec
+    house-book-requires
+    slice-aggregate-rewrite
+    slice-aggregate-rewrite-2
+    slice-aggregate-rewrite-3
+    slice-aggregate-rewrite-4
+    slice-aggregate-rewrite-5
+    slice-aggregate-rewrite-6
     rewrite-requires
     cast-put-refusal
     put-refusal-requires
     same-length
-    same-length-2
-    same-length-3
-    same-length-4
-    same-length-5
-    same-length-6
     returns
-    slice-reshare-prefix-put-output
+    array-share-prefix-out
     slice-aggregate-put-output
-    slice-reshare-prefix-put-output-2
+    array-share-prefix-origins
     slice-aggregate-put-output-2
     put-output-requires
-    same-length-7
-    same-length-8
-    same-length-9
-    same-length-10
-    same-length-11
-    same-length-12
+    same-length-2
     returns-2)

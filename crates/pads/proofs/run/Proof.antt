@@ -7,12 +7,11 @@ use Rattle.pads.proofs.run.Statement.{statement}
 use Rattle.pads.proofs.run.Tie as tie
 
 abbrev Inv-loop : tie.InvT-loop
-Inv-loop chunk₀ tape₀ text₀ book rows₀ sets₀ scratch₀ out₀ origins₀ lines₀ n₀ used₀ reads₀ chunk tape text rows sets scratch out origins lines n used reads =
-    (n ≤ length tape₀) × (used < length text₀) × (length chunk ≡ length chunk₀) × (length tape ≡ length tape₀) × (length text ≡ length text₀) × (length rows ≡ length rows₀) × (length sets ≡ length sets₀) × (length scratch ≡ length scratch₀) × (length out ≡ length out₀) × (length origins ≡ length origins₀) × (length lines ≡ length lines₀)
+Inv-loop chunk₀ tape₀ text₀ n₀ used₀ reads₀ chunk tape text n used reads =
+    (n ≤ length tape₀) × (used < length text₀) × (length chunk ≡ length chunk₀) × (length tape ≡ length tape₀) × (length text ≡ length text₀)
 
 abbrev μ-loop : tie.MeasureT-loop
-μ-loop chunk₀ tape₀ text₀ book rows₀ sets₀ scratch₀ out₀ origins₀ lines₀ n₀ used₀ reads₀ chunk tape text rows sets scratch out origins lines n used reads =
-    reads
+μ-loop chunk₀ tape₀ text₀ n₀ used₀ reads₀ chunk tape text n used reads = reads
 
 loop-holds : tie.Need-loop-holds Inv-loop μ-loop
 loop-holds c = search needs
@@ -47,24 +46,6 @@ same-length-2 c = search needs
 same-length-3 : tie.Need-same-length-3 Inv-loop μ-loop
 same-length-3 c = search needs
 
-same-length-4 : tie.Need-same-length-4 Inv-loop μ-loop
-same-length-4 c = search needs
-
-same-length-5 : tie.Need-same-length-5 Inv-loop μ-loop
-same-length-5 c = search needs
-
-same-length-6 : tie.Need-same-length-6 Inv-loop μ-loop
-same-length-6 c = search needs
-
-same-length-7 : tie.Need-same-length-7 Inv-loop μ-loop
-same-length-7 c = search needs
-
-same-length-8 : tie.Need-same-length-8 Inv-loop μ-loop
-same-length-8 c = search needs
-
-same-length-9 : tie.Need-same-length-9 Inv-loop μ-loop
-same-length-9 c = search needs
-
 returns : tie.Need-returns Inv-loop μ-loop
 returns c = search needs
 
@@ -85,10 +66,4 @@ run-spec =
     same-length
     same-length-2
     same-length-3
-    same-length-4
-    same-length-5
-    same-length-6
-    same-length-7
-    same-length-8
-    same-length-9
     returns)

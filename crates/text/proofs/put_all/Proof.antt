@@ -10,7 +10,8 @@ use Rattle.text.proofs.put_all.Statement.{statement}
 use Rattle.text.proofs.put_all.Tie as tie
 
 abbrev Inv-loop : tie.InvT-loop
-Inv-loop text₀ used s at₀ i₀ text at i = (i ≤ length s) × (at < length text₀) × (length text ≡ length text₀) × (putAll (holds text at) (drop i s) ≡ putAll (holds text₀ used) s)
+Inv-loop text₀ used s at₀ i₀ text at i =
+    (i ≤ length s) × (at < length text₀) × (length text ≡ length text₀) × (putAll (holds text at) (drop i s) ≡ putAll (holds text₀ used) s)
 
 abbrev μ-loop : tie.MeasureT-loop
 μ-loop text₀ used s at₀ i₀ text at i = length s - i
