@@ -18,10 +18,6 @@ use Rattle.stretches.specs.Candidates.{ruleOf}
 use Rattle.stretches.specs.Ready.{leftAccepts, focusStarts, focusAccepts, rightStarts, allStarts, allAccepts, maskCount, Tests}
 use Rattle.stretches.proofs.outline.outline_of.Kinds as outline-kinds
 use Rattle.stretches.proofs.outline.outline_of.Reads as outline-reads
-use Rattle.stretches.proofs.walk.right_set.Kinds as right-kinds
-use Rattle.stretches.proofs.walk.right_set.Reads as right-reads
-use Rattle.stretches.proofs.walk.left_step.Kinds as left-kinds
-use Rattle.stretches.proofs.walk.left_step.Reads as left-reads
 use Rattle.stretches.proofs.walk.focus_first.Kinds as first-kinds
 use Rattle.stretches.proofs.walk.focus_first.Reads as first-reads
 use Rattle.stretches.proofs.walk.rule_hits.Kinds as hits-kinds
@@ -59,12 +55,6 @@ pub one-outline : Determines 1 outline-kinds.ps outline-kinds.r
     (Called 1 outline-kinds.ps outline-kinds.r outline-reads.Pre outline-reads.Post)
 one-outline κs a x y v w p q =
     ((λ k h. p .1 .placed k ∙ sym (q .1 .placed k), same-masks _ _ (x .masks) (y .masks) (p .1 .tests) (q .1 .tests)), refl)
-
-pub one-right : Determined 2 right-kinds.ps right-kinds.r (Called 2 right-kinds.ps right-kinds.r right-reads.Pre right-reads.Post)
-one-right κs a x y v w p q = (p .1 ∙ sym (q .1), refl)
-
-pub one-left : Determined 1 left-kinds.ps left-kinds.r (Called 1 left-kinds.ps left-kinds.r left-reads.Pre left-reads.Post)
-one-left κs a x y v w p q = (p .1 ∙ sym (q .1), refl)
 
 pub one-first : Determined 2 first-kinds.ps first-kinds.r (Called 2 first-kinds.ps first-kinds.r first-reads.Pre first-reads.Post)
 one-first κs a x y v w p q = (p .1 ∙ sym (q .1), refl)
