@@ -18,6 +18,8 @@ pub struct Book {
     /// All states; "numbered from 0 as they appear" over the whole book.
     pub states: Vec<State>,
     pub arcs: Vec<Arc>,
+    /// For each state, those of the arcs that lead from it.
+    pub arcs_from: Vec<Vec<Arc>>,
 }
 
 #[derive(Clone, Copy)]
@@ -219,14 +221,19 @@ impl Book {
         let body = record.body.unwrap_or_default();
         match record.kind {
             RULE => self.words.push(body[1..1 + body[0] as usize].to_vec()),
-            STATE => self.states.push(State {
-                rule: self.words.len() - 1,
-                part: body[0],
-                start: body[1] & START != 0,
-                accept: body[1] & ACCEPT != 0,
-            }),
+            STATE => {
+                self.states.push(State {
+                    rule: self.words.len() - 1,
+                    part: body[0],
+                    start: body[1] & START != 0,
+                    accept: body[1] & ACCEPT != 0,
+                });
+                self.arcs_from.push(Vec::new());
+            }
             ARC => {
-                self.arcs.push(Arc { from: body[0] as usize, lowest: body[1], highest: body[2], to: body[3] as usize })
+                let arc = Arc { from: body[0] as usize, lowest: body[1], highest: body[2], to: body[3] as usize };
+                self.arcs.push(arc);
+                self.arcs_from[arc.from].push(arc);
             }
             _ => {}
         }
