@@ -5,6 +5,7 @@ use crate::record::{self, ACCEPT, ARC, BOTH, END, FOCUS, LONGEST_WORD, RIGHT, RU
 
 /// "symbols 0 to 15"
 pub const SYMBOLS: usize = 16;
+pub const HIGHEST_SYMBOL: u8 = SYMBOLS as u8 - 1;
 /// "rules 1 to 16; states at most 64; arcs at most 512"
 pub const MOST_RULES: usize = 16;
 pub const MOST_STATES: usize = 64;
@@ -171,7 +172,8 @@ fn has_bad_word(length: usize, symbols: &[u8], reading: Reading) -> bool {
 }
 
 fn has_bad_symbols(lowest: u8, highest: u8, reading: Reading) -> bool {
-    let above = lowest > 15 || highest > reading.value(15, Wrong::HighestSixteen, 16);
+    let most = reading.value(HIGHEST_SYMBOL, Wrong::HighestSixteen, HIGHEST_SYMBOL + 1);
+    let above = lowest > HIGHEST_SYMBOL || highest > most;
     above || lowest > highest || reading.is(Wrong::LowestBelowHighest) && lowest == highest
 }
 

@@ -1,7 +1,7 @@
 //! Lengths of lent buffers: exact, larger, short by one, empty.
 
 use crate::account::{self, WORDS_A_LINE};
-use crate::book;
+use crate::book::{self, HIGHEST_SYMBOL};
 use crate::call::{Call, Lengths, Operation};
 use crate::chance::Chance;
 use crate::operations::LONGEST_TAPE;
@@ -34,7 +34,7 @@ pub fn lengths(call: &Call, chance: &mut Chance) -> Lengths {
 /// Symbols or words that an accepted call would need, so that the lengths tried lie around it.
 pub fn needed(call: &Call) -> usize {
     let Ok(book) = book::read(&call.book, Reading::TRUE) else { return 3 };
-    if call.tape.len() > LONGEST_TAPE || call.tape.iter().any(|symbol| *symbol > 15) {
+    if call.tape.len() > LONGEST_TAPE || call.tape.iter().any(|symbol| *symbol > HIGHEST_SYMBOL) {
         return call.tape.len().min(20);
     }
     let stretches = Stretches::fast(&book, &call.tape);
