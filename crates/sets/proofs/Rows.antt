@@ -16,7 +16,7 @@ use Rattle.book.specs.Reading.{Arc, Book, empty, arcAt, scanOf, withRecord, boo
 use Rattle.book.specs.Sound.{Sound}
 use Rattle.book.specs.StateSets.{member}
 use Rattle.book.proofs.Laws.{size-rule, size-state, size-arc}
-use Rattle.book.proofs.Masking.{zeros}
+use Rattle.book.proofs.Pad.{zeros}
 use Rattle.book.proofs.Passed.{Passed}
 use Rattle.book.proofs.Sound.{kind-arc, arc-passed}
 use Rattle.book.proofs.Walk.{Walk, walk-start, walk-passed, walk-last, walk-more, arcs-more, arcs-same}
