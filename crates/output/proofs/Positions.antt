@@ -12,7 +12,8 @@ use Rattle.sets.specs.Sets.{leftAt}
 use Rattle.sets.specs.Numbering.{mostSets}
 use Rattle.stretches.specs.Candidates.{longest, ruleOf}
 use Rattle.stretches.specs.Output.{wordMarks, ruleWord, symbolsOf, originsOf}
-use Rattle.stretches.specs.Ready.{allStarts, Tests, WordAt, WordsAt, Rights}
+use Rattle.book.specs.Outline.{WordAt, WordsAt}
+use Rattle.stretches.specs.Ready.{allStarts, Tests, Rights}
 use Rattle.stretches.specs.Position.{Takes, marksAt}
 use Rattle.output.specs.Passes.{Shared, WordPut, KeptPut, Room, MarksPut}
 use Rattle.stretches.specs.Lists.{put}

@@ -2,9 +2,9 @@
 use crate::output::forward;
 use crate::output::longest_word;
 use crate::output::measure;
+use book::outline::place_rules;
 use stretches::outline::MASKS;
 use stretches::outline::outline_of;
-use stretches::outline::place_words;
 ghost use mathlib.Core.Path.{_≡_};
 ghost use Prim.Native.Nat.{min};
 ghost use lib.ListN.{length};
@@ -146,7 +146,7 @@ pub fn finish(
     ensures { λ r. ⌜ tapeLeaves r (now (out .exit)) (now (origins .exit)) ≡ tapeDef (rulesIn (now (book .entry))) (now (tape .entry)) (now (out .entry)) (now (origins .entry)) ⌝ }
 {
     let outline = outline_of(book);
-    let words = place_words(book);
+    let words = place_rules(book);
     both(
         book,
         &outline.places,

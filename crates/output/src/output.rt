@@ -1,5 +1,6 @@
 // The output, position after position: its symbol is passed over inside a taken stretch, kept, or replaced by the word of a rule. Where it may
 // not fit it is measured before the first write, so that a refusal leaves the outputs as they were.
+use book::outline::word_length;
 use sets::entries::left_entry;
 use sets::entries::right_set;
 use stretches::outline::ALL_STARTS;
@@ -13,19 +14,12 @@ ghost use lib.ListN.{length, getD};
 ghost use Rattle.book.specs.Format.{mostRules};
 ghost use Rattle.book.specs.Reading.{wordAt, bookOf};
 ghost use Rattle.book.specs.Language.{rulesIn};
+ghost use Rattle.book.specs.Outline.{WordRoom, WordsAt};
 ghost use Rattle.sets.specs.Sets.{leftAt};
 ghost use Rattle.stretches.specs.Buffers.{longestTape, onto};
 ghost use Rattle.stretches.specs.Output.{rewriting, symbolsOf, originsOf};
-ghost use Rattle.stretches.specs.Ready.{WordRoom, WordsAt, Lent, Ready, Rights, Remembers};
+ghost use Rattle.stretches.specs.Ready.{Lent, Ready, Rights, Remembers};
 ghost use Rattle.output.specs.Passes.{mostMarks, Shared, Sized, WordPut, KeptPut, Room, MarksPut};
-
-// The length of the word in the rule's record at `from`; its symbols stand after it.
-fn word_length(book: &[u8], from: usize) -> usize
-    requires { ⌜ WordRoom (now book) from ⌝ }
-    ensures { λ r. ⌜ r ≡ length (wordAt (now (book .entry)) from) ⌝ }
-{
-    book[from + 1] as usize
-}
 
 // No more symbols than these stand for one position: those of the longest word, or the one that is kept.
 pub(crate) fn longest_word(book: &[u8], words: &[u16; book::RULES], rules: usize) -> usize

@@ -19,7 +19,7 @@ use Rattle.book.specs.Language.{stateOf}
 use Rattle.book.specs.Sound.{Sound}
 use Rattle.book.specs.StateSets.{member}
 use Rattle.book.proofs.Bits.{or-assoc, without}
-use Rattle.book.proofs.Masking.{zeros}
+use Rattle.book.proofs.Pad.{zeros}
 use Rattle.sets.specs.Stepping.{hopFold, isEnd, stepArcs, arcBytes, SweptAll, ArcStands, between, Added, SweptRow, Stepped, gather, sideArcs, closeBy}
 use Rattle.sets.specs.Sides.{firstOf, stepOf, SideMasks}
 use Rattle.sets.proofs.Ends.{end-is, end-byte, end-small, turned-bytes}

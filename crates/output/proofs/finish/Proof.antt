@@ -3,6 +3,7 @@ use Prim.Native.Nat.{ℕ}
 use mathlib.Core.Path.{sym, subst}
 use borrow.Author.Needs.{needs}
 use Rattle.book.specs.Reading.{bookOf}
+use Rattle.book.proofs.Placing.{words-at}
 use Rattle.stretches.specs.Ready.{Outlined}
 use Rattle.output.proofs.finish.Statement.{statement}
 use Rattle.output.proofs.finish.Tie as tie
@@ -10,18 +11,19 @@ use Rattle.output.proofs.finish.Tie as tie
 outline-of-requires : tie.Need-outline-of-requires
 outline-of-requires c κs = search needs
 
-place-words-requires : tie.Need-place-words-requires
-place-words-requires c κs = search needs
+place-rules-requires : tie.Need-place-rules-requires
+place-rules-requires c κs = search needs
 
 both-requires : tie.Need-both-requires
 both-requires c κs =
-    let a = c .before .before .before .before .before .before .before .before .before .before .before .before .before .before .before .before .args in
+    let b = c .before .before .before .before .before .before .before .before .before .before .before .before .before .before .before .before in
+    let a = b .args in
     let o = c .before .before .before .before .before .before .before .before .outline-of in (
       record {
-        outlined = subst (λ (n : ℕ). Outlined (bookOf (a .book .now)) n (o .result .places) (o .result .masks)) (sym (c .before .before .before .before .before .before .before .before .before .before .before .before .before .before .before .before .pre .1)) (o .ensures);
-        words-at = c .before .before .before .before .before .before .before .place-words .ensures;
+        outlined = subst (λ (n : ℕ). Outlined (bookOf (a .book .now)) n (o .result .places) (o .result .masks)) (sym (b .pre .1)) (o .ensures);
+        words-at = words-at (a .book .now) _ (b .pre .0 .accepted) (c .before .before .before .before .before .before .before .place-rules .ensures);
       },
-      c .before .before .before .before .before .before .before .before .before .before .before .before .before .before .before .before .pre .0,
+      b .pre .0,
     )
 
 same-length : tie.Need-same-length
@@ -38,7 +40,7 @@ finish-spec =
     tie.close
     (tie.spec
     outline-of-requires
-    place-words-requires
+    place-rules-requires
     both-requires
     same-length
     same-length-2

@@ -1,6 +1,7 @@
 -- What the outline of the book ensures is what both sides are lent.
 use borrow.Author.Needs.{needs}
 use mathlib.Core.Path.{_∙_}
+use Rattle.book.proofs.Placing.{placed}
 use Rattle.sets.proofs.WaysOut.{way-on, by-name}
 use Rattle.sets.proofs.number_book.Statement.{statement}
 use Rattle.sets.proofs.number_book.Tie as tie
@@ -21,21 +22,15 @@ mask-states-requires-4 : tie.Need-mask-states-requires-4
 mask-states-requires-4 c κs = search needs
 
 number-both-requires : tie.Need-number-both-requires
-number-both-requires c κs = (
-  c .before .before .before .before .before .before .before .before .before .before .before .before .before .before .before .before .pre .0,
-  (
-    c .before .before .before .before .before .before .before .before .before .before .before .before .place-states .ensures,
-    (
-      record {
-        left-starts = c .before .before .before .before .before .before .before .before .before .before .before .mask-states .ensures .whole;
-        right-accepts = c .before .before .before .before .before .before .before .before .before .before .mask-states2 .ensures .whole;
-        right-starts = c .before .before .before .before .before .before .before .before .before .mask-states3 .ensures .rules;
-        focus-accepts = c .before .before .before .before .before .before .before .before .mask-states4 .ensures .rules;
-      },
-      search needs,
-    ),
-  ),
-)
+number-both-requires c κs =
+    let d = c .before .before .before .before .before .before .before .before in
+    let book = d .before .before .before .before .before .before .before .before .pre .0 in
+    (book, (placed _ _ book (d .before .before .before .before .place-states .ensures), (record {
+      left-starts = d .before .before .before .mask-states .ensures .whole;
+      right-accepts = d .before .before .mask-states2 .ensures .whole;
+      right-starts = d .before .mask-states3 .ensures .rules;
+      focus-accepts = d .mask-states4 .ensures .rules;
+    }, search needs)))
 
 same-length : tie.Need-same-length
 same-length c = search needs

@@ -4,7 +4,8 @@ use native.Mathlib.Omega.{arith}
 use borrow.Author.Needs.{needs}
 use lib.ListN.{length}
 use Rattle.book.specs.Reading.{wordAt}
-use Rattle.output.proofs.Marks.{word-length, Spelling, spelling-start, spelling-room, spelling-turn, spelling-end, spelling-read}
+use Rattle.book.proofs.Placing.{word-length}
+use Rattle.output.proofs.Marks.{Spelling, spelling-start, spelling-room, spelling-turn, spelling-end, spelling-read}
 use Rattle.output.proofs.output.put_word.Statement.{statement}
 use Rattle.output.proofs.output.put_word.Tie as tie
 

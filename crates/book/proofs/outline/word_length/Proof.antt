@@ -1,8 +1,8 @@
--- `output::word_length` meets its contract: the byte after the kind is the word's length. Assumes nothing.
+-- `outline::word_length` meets its contract: the byte after the kind is the word's length. Assumes nothing.
 use borrow.Author.Needs.{needs}
-use Rattle.output.proofs.Marks.{word-length}
-use Rattle.output.proofs.output.word_length.Statement.{statement}
-use Rattle.output.proofs.output.word_length.Tie as tie
+use Rattle.book.proofs.Placing.{word-length}
+use Rattle.book.proofs.outline.word_length.Statement.{statement}
+use Rattle.book.proofs.outline.word_length.Tie as tie
 
 add-result : tie.Need-add-result
 add-result c = search needs
@@ -14,8 +14,7 @@ cast-result : tie.Need-cast-result
 cast-result c = search needs
 
 returns : tie.Need-returns
-returns c =
-    word-length (c .before .args .book .now) (c .before .args .from) (c .before .pre)
+returns c = word-length (c .before .args .s .now) (c .before .args .at) (c .before .pre)
 
 pub word-length-spec : {M : Type 1} → statement M
 word-length-spec = tie.close (tie.spec add-result shared-slice-read-result cast-result returns)
