@@ -16,7 +16,7 @@ ghost use Rattle.sets.specs.Sets.{leftAt};
 ghost use Rattle.stretches.specs.Account.{account};
 ghost use Rattle.stretches.specs.Buffers.{longestTape};
 ghost use Rattle.lines.specs.Listing.{linesLeave, linesDef};
-ghost use Rattle.stretches.specs.Ready.{Tests, Outlined, Ready, Rights};
+ghost use Rattle.stretches.specs.Ready.{Tests, Outlined, Ready, RightSets};
 ghost use Rattle.lines.specs.Lines.{hitCount, startCount};
 
 mod writing; // writing.rt: the lines of the account, one after the other
@@ -64,7 +64,7 @@ fn start_count(
     left: u64,
 ) -> usize
     requires { ⌜ Outlined (bookOf (now book)) rules (now places) (now masks) ⌝ }
-    requires { ⌜ Rights (now book) (now tape) (now sets) (now scratch) ⌝ }
+    requires { ⌜ RightSets (now book) (now tape) (now sets) (now scratch) ⌝ }
     requires { ⌜ (from ≤ length (now tape)) × (length (now tape) ≤ longestTape) × (left ≡ leftAt (bookOf (now book)) (now tape) from) ⌝ }
     ensures { λ n. ⌜ n ≡ startCount (rulesIn (now (book .entry))) (now (tape .entry)) from ⌝ }
 {

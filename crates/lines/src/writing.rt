@@ -20,7 +20,7 @@ ghost use Rattle.sets.specs.Sets.{leftAt};
 ghost use Rattle.stretches.specs.Candidates.{keep};
 ghost use Rattle.stretches.specs.Account.{verdictBy, account, lineLength, wordsIn};
 ghost use Rattle.stretches.specs.Buffers.{longestTape, onto};
-ghost use Rattle.stretches.specs.Ready.{Tests, Outlined, Ready, Rights, Remembers};
+ghost use Rattle.stretches.specs.Ready.{Tests, Outlined, Ready, RightSets, Remembers};
 ghost use Rattle.stretches.specs.Position.{hits};
 ghost use Rattle.lines.specs.Lines.{decidingAt, lineBy, hitLines, startLines, LinesFit, LinesPut};
 
@@ -149,7 +149,7 @@ fn lines_at(
     at: usize,
 ) -> usize
     requires { ⌜ Outlined (bookOf (now book)) rules (now places) (now masks) ⌝ }
-    requires { ⌜ Rights (now book) (now tape) (now sets) (now scratch) ⌝ }
+    requires { ⌜ RightSets (now book) (now tape) (now sets) (now scratch) ⌝ }
     requires { ⌜ (from ≤ length (now tape)) × (left ≡ leftAt (bookOf (now book)) (now tape) from) ⌝ }
     requires { ⌜ (length (now tape) ≤ longestTape) × (d .start ≤ from) ⌝ }
     requires { ⌜ LinesFit (startLines (rulesIn (now book)) (now tape) from d) at (now lines) ⌝ }
@@ -186,7 +186,7 @@ fn deciding_at(
     symbols: &mut [u8; SLOTS],
 ) -> Deciding
     requires { ⌜ Outlined (bookOf (now book)) rules (now places) (now masks) ⌝ }
-    requires { ⌜ Rights (now book) (now tape) (now sets) (now scratch) ⌝ }
+    requires { ⌜ RightSets (now book) (now tape) (now sets) (now scratch) ⌝ }
     requires { ⌜ (i ≤ length (now tape)) × (left ≡ leftAt (bookOf (now book)) (now tape) i) ⌝ }
     requires { ⌜ Remembers (bookOf (now book)) (now steps) (now symbols) ⌝ }
     ensures { λ r. ⌜ r ≡ decidingAt (rulesIn (now (book .entry))) (now (tape .entry)) i d ⌝ }

@@ -21,7 +21,7 @@ use Rattle.book.specs.StateSets.{member}
 use Rattle.book.proofs.Bits.{or-assoc, without}
 use Rattle.book.proofs.Pad.{zeros}
 use Rattle.sets.specs.Stepping.{hopFold, isEnd, stepArcs, arcBytes, SweptAll, ArcStands, between, Added, SweptRow, Stepped, gather, sideArcs, closeBy}
-use Rattle.sets.specs.Sides.{firstOf, stepOf, SideMasks}
+use Rattle.sets.specs.Sides.{sideFirst, sideStep, SideMasks}
 use Rattle.sets.proofs.Ends.{end-is, end-byte, end-small, turned-bytes}
 use Rattle.sets.proofs.Sweep.{Sweeping, Stepping, sweep-start, sweep-ends, sweep-arc, sweep-turn-arc, sweep-turn-state, sweep-end, sweep-none}
 use Rattle.sets.proofs.Sweep.{stepping-start, stepping-end, turn-done, turn-none, turn-swept}
@@ -241,18 +241,18 @@ module _ (lefts rights : ℕ) (starts ends : List ℕ) (back : Bool) (x : ℕ) w
 
 -- it is the side's set: after no symbol, and after one more
 module _ (b : Book) (o : Sound b) (lefts rights : ℕ) (starts ends : List ℕ) (m : SideMasks b lefts rights starts ends) where
-  pub close-first : (back : Bool) → closeBy lefts rights starts ends back 0 ≡ firstOf b back
-  unfolding closeBy firstOf
+  pub close-first : (back : Bool) → closeBy lefts rights starts ends back 0 ≡ sideFirst b back
+  unfolding closeBy sideFirst
   close-first true =
       right-last b (bitOr rights 0) starts ends o (or-zero-r rights ∙ m .right-accepts) (m .right-starts) (m .focus-accepts)
   close-first false = or-zero-r lefts ∙ m .left-starts ∙ left-first b o
 
-  pub close-step : (back : Bool) (x a : ℕ) → closeBy lefts rights starts ends back (sideArcs back (b .arcs) x a) ≡ stepOf b back x a
-  unfolding closeBy sideArcs stepOf
+  pub close-step : (back : Bool) (x a : ℕ) → closeBy lefts rights starts ends back (sideArcs back (b .arcs) x a) ≡ sideStep b back x a
+  unfolding closeBy sideArcs sideStep
   close-step true x a =
       right-prev b x a (bitOr rights (stepArcs 4 1 (b .arcs) x a)) starts ends o (ap (λ (y : ℕ). bitOr y (stepArcs 4 1 (b .arcs) x a)) (m .right-accepts)) (m .right-starts) (m .focus-accepts)
   close-step false x a = ap (λ (y : ℕ). bitOr y (stepArcs 1 4 (b .arcs) x a)) (m .left-starts) ∙ left-next b x a o
 
   pub close-row : (back : Bool) (x : ℕ) (row : List ℕ) → Stepped (sideArcs back (b .arcs) x) row → (a : ℕ) → a < symbolCount
-      → closeBy lefts rights starts ends back (getD row a 0) ≡ stepOf b back x a
+      → closeBy lefts rights starts ends back (getD row a 0) ≡ sideStep b back x a
   close-row back x row w a h = ap (closeBy lefts rights starts ends back) (w .each a h) ∙ close-step back x a

@@ -5,8 +5,8 @@ ghost use Prim.Native.Nat.{_≤_};
 ghost use lib.ListN.{length};
 ghost use Rattle.book.specs.Reading.{checkDef, bookOf};
 ghost use Rattle.book.specs.Outline.{Placed};
-ghost use Rattle.sets.specs.Workspace.{rowBytes, setWords, refusal, stands, numbered, buildDef};
-ghost use Rattle.sets.specs.Sides.{tableOf, SideMasks};
+ghost use Rattle.sets.specs.Workspace.{rowBytes, setWords, refusal, buildLeaves, numbered, buildDef};
+ghost use Rattle.sets.specs.Sides.{sideTable, SideMasks};
 
 pub mod stepping; // stepping.rt: the step of a set
 pub mod entries; // entries.rt: reading a built workspace
@@ -58,7 +58,7 @@ fn number_both(
     requires { ⌜ Placed (bookOf (now book) .states) (now places) ⌝ }
     requires { ⌜ SideMasks (bookOf (now book)) lefts rights (now starts) (now ends) ⌝ }
     requires { ⌜ (rowBytes ≤ length (now rows)) × (setWords ≤ length (now sets)) ⌝ }
-    ensures { λ r. ⌜ stands r (now (rows .exit)) (now (sets .exit)) ≡ numbered (tableOf (bookOf (now (book .entry))) false) (tableOf (bookOf (now (book .entry))) true) (now (rows .entry)) (now (sets .entry)) ⌝ }
+    ensures { λ r. ⌜ buildLeaves r (now (rows .exit)) (now (sets .exit)) ≡ numbered (sideTable (bookOf (now (book .entry))) false) (sideTable (bookOf (now (book .entry))) true) (now (rows .entry)) (now (sets .entry)) ⌝ }
 {
     let left = workspace::number_part(
         book,
@@ -108,7 +108,7 @@ fn number_both(
 pub fn number_book(book: &[u8], rows: &mut [u8], sets: &mut [u64]) -> Built
     requires { ⌜ checkDef (now book) .reply ≡ 0 ⌝ }
     requires { ⌜ (rowBytes ≤ length (now rows)) × (setWords ≤ length (now sets)) ⌝ }
-    ensures { λ r. ⌜ stands r (now (rows .exit)) (now (sets .exit)) ≡ buildDef (now (book .entry)) (now (rows .entry)) (now (sets .entry)) ⌝ }
+    ensures { λ r. ⌜ buildLeaves r (now (rows .exit)) (now (sets .exit)) ≡ buildDef (now (book .entry)) (now (rows .entry)) (now (sets .entry)) ⌝ }
 {
     let placed = book::outline::place_states(book);
     let lefts = book::outline::mask_states(book, 0, 1);
@@ -131,7 +131,7 @@ pub fn number_book(book: &[u8], rows: &mut [u8], sets: &mut [u64]) -> Built
 
 // Document 01's BUILD: any book, rows and sets get their reply.
 pub fn build(book: &[u8], rows: &mut [u8], sets: &mut [u64]) -> Built
-    ensures { λ r. ⌜ stands r (now (rows .exit)) (now (sets .exit)) ≡ buildDef (now (book .entry)) (now (rows .entry)) (now (sets .entry)) ⌝ }
+    ensures { λ r. ⌜ buildLeaves r (now (rows .exit)) (now (sets .exit)) ≡ buildDef (now (book .entry)) (now (rows .entry)) (now (sets .entry)) ⌝ }
 {
     let checked = book::check(book);
     if checked.reply != 0 {

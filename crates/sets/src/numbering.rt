@@ -8,7 +8,7 @@ ghost use Rattle.book.specs.Reading.{checkDef, bookOf};
 ghost use Rattle.book.specs.Outline.{Placed};
 ghost use Rattle.sets.specs.Stepping.{closeBy};
 ghost use Rattle.sets.specs.Numbering.{idx};
-ghost use Rattle.sets.specs.Sides.{tableOf, SideMasks, Clear, Numbered};
+ghost use Rattle.sets.specs.Sides.{sideTable, SideMasks, Clear, Numbered};
 
 // The number of the set among the first `count`, or `count` where it is not met before.
 fn find(sets: &[u64], count: usize, set: u64) -> usize
@@ -68,7 +68,7 @@ pub(crate) fn number_sets(
     requires { ⌜ Placed (bookOf (now book) .states) (now places) ⌝ }
     requires { ⌜ SideMasks (bookOf (now book)) lefts rights (now starts) (now ends) ⌝ }
     requires { ⌜ Clear (now rows) (now sets) ⌝ }
-    ensures { λ r. ⌜ Numbered (tableOf (bookOf (now (book .entry))) back) r (now (rows .exit)) (now (sets .exit)) ⌝ }
+    ensures { λ r. ⌜ Numbered (sideTable (bookOf (now (book .entry))) back) r (now (rows .exit)) (now (sets .exit)) ⌝ }
 {
     sets[0] = super::stepping::close(lefts, rights, starts, ends, back, 0);
     let mut count: usize = 1;

@@ -7,7 +7,7 @@ ghost use Rattle.book.specs.Reading.{checkDef, bookOf};
 ghost use Rattle.book.specs.Outline.{Placed};
 ghost use Rattle.sets.specs.Numbering.{mostSets, pairs, pad};
 ghost use Rattle.sets.specs.Workspace.{rowBytes, setWords};
-ghost use Rattle.sets.specs.Sides.{tableOf, SideMasks, Numbered, NumberedAt};
+ghost use Rattle.sets.specs.Sides.{sideTable, SideMasks, Numbered, NumberedAt};
 
 fn clear_rows(rows: &mut [u8])
     ensures { λ _. ⌜ now (rows .exit) ≡ pad (length (now (rows .entry))) [] ⌝ }
@@ -55,7 +55,7 @@ fn number_side(
     requires { ⌜ Placed (bookOf (now book) .states) (now places) ⌝ }
     requires { ⌜ SideMasks (bookOf (now book)) lefts rights (now starts) (now ends) ⌝ }
     requires { ⌜ (length (now rows) ≡ pairs) × (length (now sets) ≡ mostSets) ⌝ }
-    ensures { λ r. ⌜ Numbered (tableOf (bookOf (now (book .entry))) back) r (now (rows .exit)) (now (sets .exit)) ⌝ }
+    ensures { λ r. ⌜ Numbered (sideTable (bookOf (now (book .entry))) back) r (now (rows .exit)) (now (sets .exit)) ⌝ }
 {
     clear_rows(rows);
     clear_sets(sets);
@@ -80,7 +80,7 @@ pub(crate) fn number_part(
     requires { ⌜ Placed (bookOf (now book) .states) (now places) ⌝ }
     requires { ⌜ SideMasks (bookOf (now book)) lefts rights (now starts) (now ends) ⌝ }
     requires { ⌜ (row + pairs ≤ length (now rows)) × (set + mostSets ≤ length (now sets)) ⌝ }
-    ensures { λ r. ⌜ NumberedAt (tableOf (bookOf (now (book .entry))) back) r row set (now (rows .entry)) (now (sets .entry)) (now (rows .exit)) (now (sets .exit)) ⌝ }
+    ensures { λ r. ⌜ NumberedAt (sideTable (bookOf (now (book .entry))) back) r row set (now (rows .entry)) (now (sets .entry)) (now (rows .exit)) (now (sets .exit)) ⌝ }
 {
     number_side(
         book,

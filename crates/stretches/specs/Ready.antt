@@ -82,7 +82,7 @@ pub record Ready (book tape rows sets scratch : List ℕ) : Type 0 where
   pub left-next : (k a : ℕ) → k < leftCount book → a < symbolCount → getD sets (getD rows (symbolCount * k + a) 0) 0 ≡ leftNext (bookOf book) (getD sets k 0) a
 
 -- of that, what the walk from one position stands on
-pub record Rights (book tape sets scratch : List ℕ) : Type 0 where
+pub record RightSets (book tape sets scratch : List ℕ) : Type 0 where
   pub accepted : checkDef book .reply ≡ 0
   pub sets-room : setWords ≤ length sets
   pub scratch-room : length tape < length scratch

@@ -18,8 +18,8 @@ ghost use Rattle.book.specs.Reading.{bookOf};
 ghost use Rattle.book.specs.Language.{rulesIn};
 ghost use Rattle.sets.specs.Sets.{leftAt};
 ghost use Rattle.sets.specs.Focus.{focusFirst, openedBy};
-ghost use Rattle.stretches.specs.Ready.{Tests, Outlined, Rights, Remembers};
-ghost use Rattle.stretches.specs.Position.{hits, hitRule, Takes};
+ghost use Rattle.stretches.specs.Ready.{Tests, Outlined, RightSets, Remembers};
+ghost use Rattle.stretches.specs.Position.{hits, hitRule, TakenHere};
 
 // The number that is no rule's.
 pub const NO_RULE: usize = book::RULES;
@@ -113,10 +113,10 @@ pub fn taken_at(
     symbols: &mut [u8; SLOTS],
 ) -> Taken
     requires { ⌜ Outlined (bookOf (now book)) rules (now places) (now masks) ⌝ }
-    requires { ⌜ Rights (now book) (now tape) (now sets) (now scratch) ⌝ }
+    requires { ⌜ RightSets (now book) (now tape) (now sets) (now scratch) ⌝ }
     requires { ⌜ (from ≤ length (now tape)) × (left ≡ leftAt (bookOf (now book)) (now tape) from) ⌝ }
     requires { ⌜ Remembers (bookOf (now book)) (now steps) (now symbols) ⌝ }
-    ensures { λ r. ⌜ Takes (rulesIn (now (book .entry))) (now (tape .entry)) from (r .end) (r .rule) ⌝ }
+    ensures { λ r. ⌜ TakenHere (rulesIn (now (book .entry))) (now (tape .entry)) from (r .end) (r .rule) ⌝ }
     ensures { λ _. ⌜ Remembers (bookOf (now (book .entry))) (now (steps .exit)) (now (symbols .exit)) ⌝ }
 {
     let mut set = focus_first(book, masks, rules, left, right_set(sets, scratch, from));

@@ -10,7 +10,7 @@ use Rattle.book.proofs.Accepted.{is-accepted}
 use Rattle.book.proofs.Sound.{accepted-sound}
 use Rattle.sets.specs.Stepping.{closeBy}
 use Rattle.sets.specs.Numbering.{mostSets}
-use Rattle.sets.specs.Sides.{firstOf, stepOf, tableOf}
+use Rattle.sets.specs.Sides.{sideFirst, sideStep, sideTable}
 use Rattle.sets.proofs.Rows.{close-first, close-row}
 use Rattle.sets.proofs.At.{Before, In, clear-rows, clear-sets, before-first, whole, too-many, in-first, in-last, in-new, in-old, in-full, new-small, old-small}
 use borrow.Author.Needs.{needs}
@@ -19,7 +19,7 @@ use Rattle.sets.proofs.numbering.number_sets.Tie as tie
 
 abbrev Inv-loop : tie.InvT-loop
 Inv-loop book places lefts rights starts ends back rows₀ sets₀ count₀ k last₀ number₀ row symbol₀ rows sets count last number symbol =
-    In (stepOf (bookOf book) back) (closeBy lefts rights starts ends back) (firstOf (bookOf book) back) k symbol (row .each) rows sets count last number
+    In (sideStep (bookOf book) back) (closeBy lefts rights starts ends back) (sideFirst (bookOf book) back) k symbol (row .each) rows sets count last number
 
 abbrev μ-loop : tie.MeasureT-loop
 μ-loop book places lefts rights starts ends back rows₀ sets₀ count₀ k last₀ number₀ row symbol₀ rows sets count last number symbol =
@@ -27,7 +27,7 @@ abbrev μ-loop : tie.MeasureT-loop
 
 abbrev Inv-all : tie.InvT-all
 Inv-all book places lefts rights starts ends back rows₀ sets₀ count₀ k₀ last₀ number₀ rows sets count k last number =
-    Before (stepOf (bookOf book) back) (closeBy lefts rights starts ends back) (firstOf (bookOf book) back) k rows sets count last number
+    Before (sideStep (bookOf book) back) (closeBy lefts rights starts ends back) (sideFirst (bookOf book) back) k rows sets count last number
 
 abbrev μ-all : tie.MeasureT-all
 μ-all book places lefts rights starts ends back rows₀ sets₀ count₀ k₀ last₀ number₀ rows sets count k last number =
@@ -143,7 +143,7 @@ same-length-2 : tie.Need-same-length-2 Inv-loop μ-loop Inv-all μ-all
 same-length-2 c = omega (arith, clear-sets _ _ (c .before .before .before .before .before .before .pre .1 .1 .1))
 
 returns : tie.Need-returns Inv-loop μ-loop Inv-all μ-all
-unfolding tableOf
+unfolding sideTable
 returns c = whole _ _ _ _ _ _ (c .before .all .inv .at) (c .if1 .taken)
 
 same-length-3 : tie.Need-same-length-3 Inv-loop μ-loop Inv-all μ-all
@@ -157,7 +157,7 @@ same-length-4 c =
     omega (arith, clear-sets _ _ (p .1 .1 .1))
 
 returns-2 : tie.Need-returns-2 Inv-loop μ-loop Inv-all μ-all
-unfolding tableOf
+unfolding sideTable
 returns-2 c =
     let l = c .before .before .before .before .before .before .loop in
     let t = c .before .before .before .before .before .loop-test in

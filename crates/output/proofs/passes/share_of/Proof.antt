@@ -1,10 +1,10 @@
--- `output::share_of` meets its contract, in the three things that a position can do. Assumes nothing.
+-- `passes::share_of` meets its contract, in the three things that a position can do. Assumes nothing.
 use mathlib.Core.Path.{refl}
 use native.Mathlib.Omega.{arith}
 use borrow.Author.Needs.{needs}
 use Rattle.output.proofs.Positions.{takes-nothing, shared-in, shared-keep, shared-word, known-rule, stands}
-use Rattle.output.proofs.output.share_of.Statement.{statement}
-use Rattle.output.proofs.output.share_of.Tie as tie
+use Rattle.output.proofs.passes.share_of.Statement.{statement}
+use Rattle.output.proofs.passes.share_of.Tie as tie
 
 returns : tie.Need-returns
 returns c =

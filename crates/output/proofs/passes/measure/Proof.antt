@@ -1,4 +1,4 @@
--- `output::measure` meets its contract: the counts so far and what is still to come make the whole. Assumes nothing.
+-- `passes::measure` meets its contract: the counts so far and what is still to come make the whole. Assumes nothing.
 use Prim.Native.Nat.{_+_, _-_, _<_}
 use native.Mathlib.Omega.{arith}
 use borrow.Author.Needs.{needs}
@@ -9,8 +9,8 @@ use Rattle.book.specs.Language.{rulesIn}
 use Rattle.output.proofs.Measured.{shared-on, Counted, counted-start, counted-fits, counted-turn, counted-end}
 use Rattle.stretches.proofs.Scans.{rights-of}
 use Rattle.stretches.proofs.Remembering.{remembers-start}
-use Rattle.output.proofs.output.measure.Statement.{statement}
-use Rattle.output.proofs.output.measure.Tie as tie
+use Rattle.output.proofs.passes.measure.Statement.{statement}
+use Rattle.output.proofs.passes.measure.Tie as tie
 
 abbrev Inv-loop : tie.InvT-loop
 Inv-loop book places masks words rules tape rows sets scratch steps₀ symbols₀ length₀ taken₀ end₀ k₀ i₀ steps symbols length taken end k i =

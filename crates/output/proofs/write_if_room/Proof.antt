@@ -1,12 +1,12 @@
--- `output::both` meets its contract: refused where symbols are needed past the room of the shorter buffer, else written. Assumes nothing.
+-- `write_if_room` meets its contract: refused where symbols are needed past the room of the shorter buffer, else written. Assumes nothing.
 use mathlib.Core.Path.{ap, _∙_}
 use native.Mathlib.Omega.{arith}
 use borrow.Author.Needs.{needs}
 use Rattle.book.specs.Language.{rulesIn}
 use Rattle.output.specs.Passes.{neededPast}
 use Rattle.output.proofs.Outcomes.{needed-fits, tape-done, tape-no-room}
-use Rattle.output.proofs.both.Statement.{statement}
-use Rattle.output.proofs.both.Tie as tie
+use Rattle.output.proofs.write_if_room.Statement.{statement}
+use Rattle.output.proofs.write_if_room.Tie as tie
 
 room-of-requires : tie.Need-room-of-requires
 room-of-requires c κs = search needs
@@ -42,8 +42,8 @@ returns-2 c =
     let h = needed-fits (rulesIn (a .book .now)) (a .tape .now) (c .before .before .before .before .before .before .before .before .before .room-of .result) (c .before .before .before .before .before .before .before .before .needed .result) (c .before .before .before .before .before .before .before .before .needed .ensures) (c .before .before .before .before .before .before .before .if1 .left) in
     tape-done (rulesIn (a .book .now)) (a .tape .now) (a .out .now) (a .origins .now) (f .result .length) (f .result .taken) _ _ (f .ensures .0) (omega (arith, h, c .before .before .before .before .before .before .before .before .before .room-of .ensures, f .ensures .0 .lens)) (omega (arith, h, c .before .before .before .before .before .before .before .before .before .room-of .ensures, f .ensures .0 .lens)) (f .ensures .1 .0) (f .ensures .1 .1)
 
-pub both-spec : {M : Type 1} → statement M
-both-spec =
+pub write-if-room-spec : {M : Type 1} → statement M
+write-if-room-spec =
     tie.close
     (tie.spec
     room-of-requires

@@ -18,7 +18,7 @@ ghost use Rattle.book.specs.Outline.{WordRoom, WordsAt};
 ghost use Rattle.sets.specs.Sets.{leftAt};
 ghost use Rattle.stretches.specs.Buffers.{longestTape, onto};
 ghost use Rattle.stretches.specs.Output.{rewriting, symbolsOf, originsOf};
-ghost use Rattle.stretches.specs.Ready.{Lent, Ready, Rights, Remembers};
+ghost use Rattle.stretches.specs.Ready.{Lent, Ready, RightSets, Remembers};
 ghost use Rattle.output.specs.Passes.{mostMarks, Shared, Sized, WordPut, KeptPut, Room, MarksPut};
 
 // No more symbols than these stand for one position: those of the longest word, or the one that is kept.
@@ -95,7 +95,7 @@ fn share_of(
     symbols: &mut [u8; SLOTS],
 ) -> Share
     requires { ⌜ Lent (now book) rules (now places) (now masks) (now words) ⌝ }
-    requires { ⌜ Rights (now book) (now tape) (now sets) (now scratch) ⌝ }
+    requires { ⌜ RightSets (now book) (now tape) (now sets) (now scratch) ⌝ }
     requires { ⌜ (i < length (now tape)) × (left ≡ leftAt (bookOf (now book)) (now tape) i) ⌝ }
     requires { ⌜ Remembers (bookOf (now book)) (now steps) (now symbols) ⌝ }
     ensures { λ r. ⌜ Shared (rulesIn (now (book .entry))) (now (tape .entry)) i 0 end 0 (r .length) (r .end) (r .taken) ⌝ }
@@ -219,7 +219,7 @@ fn keep(tape: &[u8], i: usize, out: &mut [u8], origins: &mut [u16], at: usize, t
 }
 
 // Writes what stands for one position.
-fn place(
+fn write_position(
     book: &[u8],
     places: &[u16; book::STATES],
     masks: &[u64; MASKS],
@@ -237,7 +237,7 @@ fn place(
     origins: &mut [u16],
 ) -> Spot
     requires { ⌜ Lent (now book) rules (now places) (now masks) (now words) ⌝ }
-    requires { ⌜ Rights (now book) (now tape) (now sets) (now scratch) ⌝ }
+    requires { ⌜ RightSets (now book) (now tape) (now sets) (now scratch) ⌝ }
     requires { ⌜ (i < length (now tape)) × (i < longestTape) × (left ≡ leftAt (bookOf (now book)) (now tape) i) × (s .taken ≤ longestTape) ⌝ }
     requires { ⌜ Room (rulesIn (now book)) (now tape) i (s .at) (s .end) (now out) (now origins) ⌝ }
     requires { ⌜ Remembers (bookOf (now book)) (now steps) (now symbols) ⌝ }
@@ -309,7 +309,7 @@ pub(crate) fn forward(
     let mut k = 0;
     let mut i = 0;
     while i < tape.len() {
-        let r = place(
+        let r = write_position(
             book,
             places,
             masks,

@@ -1,10 +1,10 @@
--- `output::longest_word` meets its contract: the longest so far and the rules that are left give the longest. Assumes nothing.
+-- `passes::longest_word` meets its contract: the longest so far and the rules that are left give the longest. Assumes nothing.
 use Prim.Native.Nat.{_-_}
 use native.Mathlib.Omega.{arith}
 use borrow.Author.Needs.{needs}
 use Rattle.output.proofs.Limits.{Longest, longest-start, longest-more, longest-less, longest-end}
-use Rattle.output.proofs.output.longest_word.Statement.{statement}
-use Rattle.output.proofs.output.longest_word.Tie as tie
+use Rattle.output.proofs.passes.longest_word.Statement.{statement}
+use Rattle.output.proofs.passes.longest_word.Tie as tie
 
 abbrev Inv-loop : tie.InvT-loop
 Inv-loop book words rules most₀ r₀ most r = Longest book most r

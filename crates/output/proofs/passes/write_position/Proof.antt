@@ -1,11 +1,11 @@
--- `output::place` meets its contract, in the three things that a position can do. Assumes nothing.
+-- `passes::write_position` meets its contract, in the three things that a position can do. Assumes nothing.
 use Prim.Native.Nat.{_≤_}
 use mathlib.Core.Path.{refl}
 use native.Mathlib.Omega.{arith}
 use borrow.Author.Needs.{needs}
 use Rattle.output.proofs.Positions.{takes-nothing, put-in, keep-room, put-keep, known-rule, stands, word-room, put-replace}
-use Rattle.output.proofs.output.place.Statement.{statement}
-use Rattle.output.proofs.output.place.Tie as tie
+use Rattle.output.proofs.passes.write_position.Statement.{statement}
+use Rattle.output.proofs.passes.write_position.Tie as tie
 
 returns : tie.Need-returns
 returns c =
@@ -115,8 +115,8 @@ returns-4 c =
     let new : a .s .end ≤ a .i = omega (arith, c .before .before .before .before .before .before .before .before .before .before .before .before .before .before .before .if1 .left) in
     (put-replace (a .book .now) (c .before .before .before .before .before .before .before .before .before .before .before .before .before .before .before .before .before .before .before .before .before .before .pre .1 .0 .accepted) (a .tape .now) (a .i) (a .s .end) new (t .result .end) (t .result .rule) (t .ensures .0) (c .before .before .before .before .before .before .before .before .if3 .left) (a .words .now) (c .before .before .before .before .before .before .before .before .before .before .before .before .before .before .before .before .before .before .before .before .before .before .pre .0 .words-at) (a .s .at) (a .s .taken) (a .out .now) (a .origins .now) (p .result) _ _ (p .ensures), t .ensures .1)
 
-pub place-spec : {M : Type 1} → statement M
-place-spec =
+pub write-position-spec : {M : Type 1} → statement M
+write-position-spec =
     tie.close
     (tie.spec
     returns

@@ -1,4 +1,4 @@
--- `output::forward` meets its contract: what is written and counted so far, followed by what is still to come, is the whole. Assumes nothing.
+-- `passes::forward` meets its contract: what is written and counted so far, followed by what is still to come, is the whole. Assumes nothing.
 use Prim.Native.Nat.{_-_, _≤_, _<_}
 use native.Mathlib.Omega.{arith}
 use borrow.Author.Needs.{needs}
@@ -9,8 +9,8 @@ use Rattle.stretches.proofs.Scans.{rights-of}
 use Rattle.output.proofs.Forth.{Forth, forth-start, forth-room, forth-turn, forth-outs, forth-orgs}
 use Rattle.output.proofs.Measured.{counted-taken, counted-end}
 use Rattle.stretches.proofs.Remembering.{remembers-start}
-use Rattle.output.proofs.output.forward.Statement.{statement}
-use Rattle.output.proofs.output.forward.Tie as tie
+use Rattle.output.proofs.passes.forward.Statement.{statement}
+use Rattle.output.proofs.passes.forward.Tie as tie
 
 abbrev Inv-loop : tie.InvT-loop
 Inv-loop book places masks words rules tape rows sets scratch out₀ origins₀ steps₀ symbols₀ at₀ end₀ taken₀ k₀ i₀ out origins steps symbols at end taken k i =
@@ -25,15 +25,15 @@ loop-holds c =
     let a = c .before .before .before .before .before .before .before .args in
     (forth-start (a .book .now) (a .tape .now) (a .rows .now) (a .sets .now) (a .scratch .now) (a .out .now) (a .origins .now) (c .before .before .before .before .before .before .before .pre .1 .0), remembers-start (bookOf (a .book .now)))
 
-mul-place : tie.Need-mul-place Inv-loop μ-loop
-mul-place c = search needs
+mul-write-position : tie.Need-mul-write-position Inv-loop μ-loop
+mul-write-position c = search needs
 
-shared-slice-read-place : tie.Need-shared-slice-read-place Inv-loop μ-loop
-shared-slice-read-place c =
+shared-slice-read-write-position : tie.Need-shared-slice-read-write-position Inv-loop μ-loop
+shared-slice-read-write-position c =
     omega (arith, c .before .before .loop .inv .0 .counted .left .below, c .before .before .before .before .before .before .before .before .before .before .pre .1 .0 .few, c .before .before .before .before .before .before .before .before .before .before .pre .1 .0 .sets-room)
 
-place-requires : tie.Need-place-requires Inv-loop μ-loop
-place-requires c κs =
+write-position-requires : tie.Need-write-position-requires Inv-loop μ-loop
+write-position-requires c κs =
     let a = c .before .before .before .before .before .before .before .before .before .before .before .before .before .before .args in
     let l = c .before .before .before .before .before .before .loop in
     let h : l .i < length (a .tape .now) = c .before .before .before .before .before .loop-test .taken in (
@@ -67,7 +67,7 @@ loop-again : tie.Need-loop-again Inv-loop μ-loop
 loop-again c =
     let a = c .before .before .before .before .before .before .before .before .before .before .before .before .before .before .before .before .before .before .before .before .before .args in
     let l = c .before .before .before .before .before .before .before .before .before .before .before .before .before .loop in
-    let p = c .before .before .before .before .before .before .place in
+    let p = c .before .before .before .before .before .before .write-position in
     let h : l .i < length (a .tape .now) = c .before .before .before .before .before .before .before .before .before .before .before .before .loop-test .taken in (
       forth-turn (a .book .now) (a .tape .now) (a .rows .now) (a .sets .now) (a .scratch .now) (a .out .now) (a .origins .now) (c .before .before .before .before .before .before .before .before .before .before .before .before .before .before .before .before .before .before .before .before .before .pre .1 .0) (l .out) (l .origins) (l .at) (l .taken) (l .end) (l .k) (l .i) (l .inv .0) h (p .result .at) (p .result .end) (p .result .taken) (c .left-entry .result) _ _
           (forth-room (a .book .now) (a .tape .now) (a .rows .now) (a .sets .now) (a .scratch .now) (a .out .now) (a .origins .now) (c .before .before .before .before .before .before .before .before .before .before .before .before .before .before .before .before .before .before .before .before .before .pre .1 .0) (l .out) (l .origins) (l .at) (l .taken) (l .end) (l .k) (l .i) (l .inv .0) h (c .before .before .before .before .before .before .before .before .before .before .before .before .before .before .before .before .before .before .before .before .before .pre .1 .1 .0) (c .before .before .before .before .before .before .before .before .before .before .before .before .before .before .before .before .before .before .before .before .before .pre .1 .1 .1))
@@ -100,9 +100,9 @@ forward-spec =
     Inv-loop
     μ-loop
     loop-holds
-    mul-place
-    shared-slice-read-place
-    place-requires
+    mul-write-position
+    shared-slice-read-write-position
+    write-position-requires
     shared-slice-read-left-entry
     left-entry-requires
     add-i

@@ -1,12 +1,12 @@
--- `output::finish` meets its contract: the outline of the book is lent to both passes. Assumes nothing.
+-- `output::rewrite_ready` meets its contract: the outline of the book is lent to both passes. Assumes nothing.
 use Prim.Native.Nat.{ℕ}
 use mathlib.Core.Path.{sym, subst}
 use borrow.Author.Needs.{needs}
 use Rattle.book.specs.Reading.{bookOf}
 use Rattle.book.proofs.Placing.{words-at}
 use Rattle.stretches.specs.Ready.{Outlined}
-use Rattle.output.proofs.finish.Statement.{statement}
-use Rattle.output.proofs.finish.Tie as tie
+use Rattle.output.proofs.rewrite_ready.Statement.{statement}
+use Rattle.output.proofs.rewrite_ready.Tie as tie
 
 outline-of-requires : tie.Need-outline-of-requires
 outline-of-requires c κs = search needs
@@ -14,8 +14,8 @@ outline-of-requires c κs = search needs
 place-rules-requires : tie.Need-place-rules-requires
 place-rules-requires c κs = search needs
 
-both-requires : tie.Need-both-requires
-both-requires c κs =
+write-if-room-requires : tie.Need-write-if-room-requires
+write-if-room-requires c κs =
     let b = c .before .before .before .before .before .before .before .before .before .before .before .before .before .before .before .before in
     let a = b .args in
     let o = c .before .before .before .before .before .before .before .before .outline-of in (
@@ -35,13 +35,13 @@ same-length-2 c = search needs
 returns : tie.Need-returns
 returns c = search needs
 
-pub finish-spec : {M : Type 1} → statement M
-finish-spec =
+pub rewrite-ready-spec : {M : Type 1} → statement M
+rewrite-ready-spec =
     tie.close
     (tie.spec
     outline-of-requires
     place-rules-requires
-    both-requires
+    write-if-room-requires
     same-length
     same-length-2
     returns)

@@ -1,4 +1,4 @@
--- `output::put_word` meets its contract: the symbols so far and their origins stand in front, and the rest is as it was. Assumes nothing.
+-- `passes::put_word` meets its contract: the symbols so far and their origins stand in front, and the rest is as it was. Assumes nothing.
 use Prim.Native.Nat.{_-_, _<_}
 use native.Mathlib.Omega.{arith}
 use borrow.Author.Needs.{needs}
@@ -6,8 +6,8 @@ use lib.ListN.{length}
 use Rattle.book.specs.Reading.{wordAt}
 use Rattle.book.proofs.Placing.{word-length}
 use Rattle.output.proofs.Marks.{Spelling, spelling-start, spelling-room, spelling-turn, spelling-end, spelling-read}
-use Rattle.output.proofs.output.put_word.Statement.{statement}
-use Rattle.output.proofs.output.put_word.Tie as tie
+use Rattle.output.proofs.passes.put_word.Statement.{statement}
+use Rattle.output.proofs.passes.put_word.Tie as tie
 
 abbrev Inv-loop : tie.InvT-loop
 Inv-loop book from start out₀ origins₀ at n origin k₀ out origins k = Spelling (wordAt book from) start out₀ origins₀ out origins at k
