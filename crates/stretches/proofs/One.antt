@@ -2,7 +2,7 @@
 -- `taken_at` says that they are right, and not which they are. Assumes nothing.
 use Prim.Native.Nat.{ℕ, _<_, _-_}
 use mathlib.Core.List.{List}
-use mathlib.Core.Path.{_≡_, refl, sym, subst, _∙_}
+use mathlib.Core.Path.{_≡_, refl, sym, subst, ap, _∙_}
 use mathlib.Core.Logic.{by-cases}
 use native.Mathlib.Omega.{arith}
 use native.Mathlib.Decide.{decLt}
@@ -15,7 +15,7 @@ use Rattle.book.specs.Reading.{Book}
 use Rattle.book.specs.Language.{rulesIn}
 use Rattle.book.specs.Determined.{Determines, Determined, Called, SameArray}
 use Rattle.stretches.specs.Candidates.{ruleOf}
-use Rattle.stretches.specs.Ready.{leftAccepts, focusStarts, focusAccepts, rightStarts, allStarts, allAccepts, maskCount, Tests}
+use Rattle.stretches.specs.Ready.{focusStarts, focusAccepts, rightStarts, allStarts, allAccepts, maskCount, Tests}
 use Rattle.stretches.proofs.outline.outline_of.Kinds as outline-kinds
 use Rattle.stretches.proofs.outline.outline_of.Reads as outline-reads
 use Rattle.stretches.proofs.walk.focus_first.Kinds as first-kinds
@@ -69,4 +69,6 @@ pub one-taken : (κs : Lfts 8) (a : Dens κs taken-kinds.ps) (x y : resT taken-k
     → x ≡ y
 one-taken κs a x y v w p q =
     let far = p .0 .far ∙ sym (q .0 .far) in
-    λ i. record { end = far i; rule = (p .0 .who ∙ (λ j. ruleOf (rulesIn (a .0 .now)) (a .1 .1 .1 .1 .0 .now) (a .1 .1 .1 .1 .1 .1 .1 .0) (far j)) ∙ sym (q .0 .who)) i }
+    let by : ℕ → ℕ = λ e. ruleOf (rulesIn (a .0 .now)) (a .1 .1 .1 .1 .0 .now) (a .1 .1 .1 .1 .1 .1 .1 .0) e in
+    let who = p .0 .who ∙ ap by far ∙ sym (q .0 .who) in
+    λ i. record { end = far i; rule = who i }
