@@ -33,7 +33,7 @@ pub fn bounds_of(n: usize, lines: &[u16], line: usize) -> Bounds
         return Bounds { start: 0, end: 0 };
     }
     if n < end {
-        return Bounds { start: 0, end: 0 };
+        return Bounds { start: 0, end: 0 }; // past the tape
     }
     Bounds { start, end }
 }

@@ -24,13 +24,21 @@ mask-states-requires-4 c κs = search needs
 number-both-requires : tie.Need-number-both-requires
 number-both-requires c κs =
     let d = c .before .before .before .before .before .before .before .before in
-    let book = d .before .before .before .before .before .before .before .before .pre .0 in
-    (book, (placed _ _ book (d .before .before .before .before .place-states .ensures), (record {
-      left-starts = d .before .before .before .mask-states .ensures .whole;
-      right-accepts = d .before .before .mask-states2 .ensures .whole;
-      right-starts = d .before .mask-states3 .ensures .rules;
-      focus-accepts = d .mask-states4 .ensures .rules;
-    }, search needs)))
+    let book = d .before .before .before .before .before .before .before .before .pre .0 in (
+      book,
+      (
+        placed _ _ book (d .before .before .before .before .place-states .ensures),
+        (
+          record {
+            left-starts = d .before .before .before .mask-states .ensures .whole;
+            right-accepts = d .before .before .mask-states2 .ensures .whole;
+            right-starts = d .before .mask-states3 .ensures .rules;
+            focus-accepts = d .mask-states4 .ensures .rules;
+          },
+          search needs,
+        ),
+      ),
+    )
 
 same-length : tie.Need-same-length
 same-length c = search needs
