@@ -11,7 +11,7 @@ use Rattle.book.specs.Language.{rulesIn}
 use Rattle.stretches.specs.Account.{Line, account, lineWords, lineLength, line-length, wordsIn}
 use Rattle.stretches.specs.Sentences.{lineNumber}
 use Rattle.stretches.specs.Buffers.{onto}
-use Rattle.rewriter.specs.Show.{wordOfLine, startIn, endIn, between, boundsOf}
+use Rattle.rewriter.specs.Show.{wordOfLine, startIn, endIn, between, wordsThrough, boundsOf}
 use Rattle.stretches.proofs.Sorting.{number-in}
 use Rattle.stretches.proofs.Accounts.{account-candidates}
 use Rattle.stretches.proofs.Counts.{words-length}
@@ -20,18 +20,18 @@ use Rattle.rewriter.proofs.Onto.{onto-at}
 
 pub bounds-short : (n : ℕ) (l : List ℕ) (k : ℕ) → length l < lineLength * (k + 1) → between 0 0 ≡ boundsOf n l k
 unfolding boundsOf
-bounds-short n l k h = simp (lt-leb (lineLength * (k + 1)) (length l) h)
+bounds-short n l k h = simp (lt-leb (wordsThrough k) (length l) (omega arith))
 
 module _ (n : ℕ) (l : List ℕ) (k s e : ℕ) (whole : lineLength * (k + 1) ≤ length l) (ps : s ≡ startIn l k) (pe : e ≡ endIn l k) where
   pub bounds-empty : e ≤ s → between 0 0 ≡ boundsOf n l k
   unfolding boundsOf
-  bounds-empty h = simp (le-leb (lineLength * (k + 1)) (length l) whole, le-ltb (startIn l k) (endIn l k) (omega arith))
+  bounds-empty h = simp (le-leb (wordsThrough k) (length l) (omega arith), le-ltb (startIn l k) (endIn l k) (omega arith))
 
   pub bounds-past : s < e → n < e → between 0 0 ≡ boundsOf n l k
   unfolding boundsOf
   bounds-past h g =
       simp (
-        le-leb (lineLength * (k + 1)) (length l) whole,
+        le-leb (wordsThrough k) (length l) (omega arith),
         lt-ltb (startIn l k) (endIn l k) (omega arith),
         lt-leb (endIn l k) n (omega arith),
       )
@@ -40,7 +40,7 @@ module _ (n : ℕ) (l : List ℕ) (k s e : ℕ) (whole : lineLength * (k + 1) �
   unfolding boundsOf
   bounds-stretch h g =
       simp (
-        le-leb (lineLength * (k + 1)) (length l) whole,
+        le-leb (wordsThrough k) (length l) (omega arith),
         lt-ltb (startIn l k) (endIn l k) (omega arith),
         le-leb (endIn l k) n (omega arith),
         ps,

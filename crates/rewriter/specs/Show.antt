@@ -21,10 +21,14 @@ endIn lines k = wordOfLine lines k 2
 abbrev pub between : ℕ → ℕ → Bounds
 between i j = record { start = i; end = j }
 
+-- how many words an account has if line k is "wholly inside" it
+abbrev pub wordsThrough : ℕ → ℕ
+wordsThrough k = lineLength * (k + 1)
+
 -- the stretch that line k names in a tape of n symbols, or the empty one at the front
 unfoldable pub boundsOf : ℕ → List ℕ → ℕ → Bounds
 boundsOf n lines k =
-    cond (leb (lineLength * (k + 1)) (length lines) && ltb (startIn lines k) (endIn lines k) && leb (endIn lines k) n)
+    cond (leb (wordsThrough k) (length lines) && ltb (startIn lines k) (endIn lines k) && leb (endIn lines k) n)
     (between (startIn lines k) (endIn lines k))
     (between 0 0)
 
