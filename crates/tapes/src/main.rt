@@ -1,8 +1,6 @@
 // Runs what document 01 gives and does not mark as proved, and compares: the limits, and every reply number with its place, its counts
 // and what stands in each buffer afterwards. A line a case: ok or WRONG, operation, reply, place.
-ghost use Prim.Native.Nat.{_≤_, _<_};
-ghost use lib.ListN.{length};
-ghost use Rattle.tapes.specs.Room.{Room};
+ghost use Prim.Native.Nat.{_≤_};
 
 mod cases; // cases.rt: the cases
 mod books; // books.rt: the books of the cases
@@ -10,17 +8,20 @@ mod expect; // expect.rt: what must stand in each buffer
 mod hold; // hold.rt: whole buffers compared
 
 use libc::STDOUT_FILENO;
+use rewriter::LINE_WORDS;
+use rewriter::LONGEST_TAPE;
 
-// The room there is: some elements more than the workspace, the scratch of the longest tape, its output and its account need.
-const ROOM_ROWS: usize = 8200;
+// The room there is: some elements more than the workspace, the scratch of the longest tape, its output and its account need. Every
+// second symbol of that tape becomes two.
+const ROOM_ROWS: usize = sets::ROW_BYTES + 8;
 
-const ROOM_SETS: usize = 520;
+const ROOM_SETS: usize = sets::SET_WORDS + 8;
 
-pub(crate) const SCRATCH: usize = 4100;
+pub(crate) const SCRATCH: usize = LONGEST_TAPE + 4;
 
-pub(crate) const OUT: usize = 6150;
+pub(crate) const OUT: usize = LONGEST_TAPE + LONGEST_TAPE / 2 + 6;
 
-pub(crate) const LINES: usize = 10250;
+pub(crate) const LINES: usize = LINE_WORDS * (LONGEST_TAPE / 2) + 10;
 
 // What a case must answer; `tables` names what acceptance leaves in the workspace.
 struct Want {
@@ -32,7 +33,7 @@ struct Want {
     third: usize,
 }
 
-// How many elements of each buffer are lent.
+// How many elements of each buffer are lent, as far as there is room.
 struct Lent {
     rows: usize,
     sets: usize,
@@ -40,6 +41,14 @@ struct Lent {
     out: usize,
     origins: usize,
     lines: usize,
+}
+
+// What one buffer must hold: which it is, what stands in the workspace, and how far it is written: of the scratch up to and with the
+// tape's length, of the output and the origins the first elements, of an account the first lines.
+struct Expected {
+    buffer: u8,
+    tables: u8,
+    front: usize,
 }
 
 fn both(a: bool, b: bool) -> bool {
@@ -87,48 +96,48 @@ fn check_case(book: &[u8], want: Want, note: &[u8]) {
     );
 }
 
-fn build(book: &[u8], rows: &mut [u8], sets: &mut [u64], lent: Lent, want: Want) -> bool
-    requires { ⌜ (lent .rows ≤ length (now rows)) × (lent .sets ≤ length (now sets)) ⌝ }
+fn within(n: usize, room: usize) -> usize
+    ensures { λ r. ⌜ r ≤ room ⌝ }
 {
-    let some_rows = lent.rows;
-    let some_sets = lent.sets;
-    let r = sets::build(book, &mut rows[0..some_rows], &mut sets[0..some_sets]);
-    let tables = expect::tables_after(want.reply, want.tables);
-    let ok = both(hold::rows_hold(rows, tables), hold::sets_hold(sets, tables));
-    both(ok, numbers_are(want, r.reply, r.place, r.left, r.right, 0))
+    if n < room { n } else { room }
 }
 
-fn build_case(book: &[u8], lent: Lent, want: Want, note: &[u8])
-    requires { ⌜ Room lent ⌝ }
-{
+fn build_case(book: &[u8], lent: Lent, want: Want, note: &[u8]) {
     let mut rows = [expect::OLD; ROOM_ROWS];
     let mut sets = [expect::OLD as u64; ROOM_SETS];
-    report(
-        build(book, &mut rows, &mut sets, lent, want),
-        b"BUILD",
-        want,
-        note,
+    let some_rows = within(lent.rows, ROOM_ROWS);
+    let some_sets = within(lent.sets, ROOM_SETS);
+    let r = sets::build(book, &mut rows[0..some_rows], &mut sets[0..some_sets]);
+    let tables = expect::tables_after(want.reply, want.tables);
+    let built = both(
+        hold::bytes_hold(
+            &rows,
+            Expected {
+                buffer: expect::ROWS,
+                tables,
+                front: 0,
+            },
+        ),
+        hold::sets_hold(&sets, tables),
     );
+    let ok = both(
+        built,
+        numbers_are(want, r.reply, r.place, r.left, r.right, 0),
+    );
+    report(ok, b"BUILD", want, note);
 }
 
-fn rewrite(
-    book: &[u8],
-    tape: &[u8],
-    rows: &mut [u8],
-    sets: &mut [u64],
-    scratch: &mut [u8],
-    out: &mut [u8],
-    origins: &mut [u16],
-    lent: Lent,
-    want: Want,
-) -> bool
-    requires { ⌜ (lent .rows ≤ length (now rows)) × (lent .sets ≤ length (now sets)) × (lent .scratch ≤ length (now scratch)) × (lent .out ≤ length (now out)) × (lent .origins ≤ length (now origins)) ⌝ }
-{
-    let some_rows = lent.rows;
-    let some_sets = lent.sets;
-    let some_scratch = lent.scratch;
-    let some_out = lent.out;
-    let some_origins = lent.origins;
+fn rewrite_case(book: &[u8], tape: &[u8], lent: Lent, want: Want, note: &[u8]) {
+    let mut rows = [expect::OLD; ROOM_ROWS];
+    let mut sets = [expect::OLD as u64; ROOM_SETS];
+    let mut scratch = [expect::OLD; SCRATCH];
+    let mut out = [expect::OLD; OUT];
+    let mut origins = [expect::OLD as u16; OUT];
+    let some_rows = within(lent.rows, ROOM_ROWS);
+    let some_sets = within(lent.sets, ROOM_SETS);
+    let some_scratch = within(lent.scratch, SCRATCH);
+    let some_out = within(lent.out, OUT);
+    let some_origins = within(lent.origins, OUT);
     let r = rewriter::rewrite(
         book,
         tape,
@@ -139,68 +148,59 @@ fn rewrite(
         &mut origins[0..some_origins],
     );
     let tables = expect::tables_after(want.reply, want.tables);
-    let passes = both(
-        hold::rows_hold(rows, tables),
-        both(
-            hold::sets_hold(sets, tables),
-            hold::scratch_holds(scratch, tables, tape.len()),
+    let built = both(
+        hold::bytes_hold(
+            &rows,
+            Expected {
+                buffer: expect::ROWS,
+                tables,
+                front: 0,
+            },
+        ),
+        hold::sets_hold(&sets, tables),
+    );
+    let passed = hold::bytes_hold(
+        &scratch,
+        Expected {
+            buffer: expect::SCRATCH,
+            tables,
+            front: tape.len(),
+        },
+    );
+    let written = both(
+        hold::bytes_hold(
+            &out,
+            Expected {
+                buffer: expect::OUT,
+                tables,
+                front: want.first,
+            },
+        ),
+        hold::words_hold(
+            &origins,
+            Expected {
+                buffer: expect::ORIGINS,
+                tables,
+                front: want.first,
+            },
         ),
     );
     let ok = both(
-        passes,
-        both(
-            hold::out_holds(out, want.first),
-            hold::origins_hold(origins, want.first),
-        ),
-    );
-    both(
-        ok,
+        both(built, both(passed, written)),
         numbers_are(want, r.reply, r.place, r.length, r.taken, 0),
-    )
+    );
+    report(ok, b"REWRITE", want, note);
 }
 
-fn rewrite_case(book: &[u8], tape: &[u8], lent: Lent, want: Want, note: &[u8])
-    requires { ⌜ Room lent ⌝ }
-{
+fn account_case(book: &[u8], tape: &[u8], lent: Lent, want: Want, note: &[u8]) {
     let mut rows = [expect::OLD; ROOM_ROWS];
     let mut sets = [expect::OLD as u64; ROOM_SETS];
     let mut scratch = [expect::OLD; SCRATCH];
-    let mut out = [expect::OLD; OUT];
-    let mut origins = [expect::OLD as u16; OUT];
-    report(
-        rewrite(
-            book,
-            tape,
-            &mut rows,
-            &mut sets,
-            &mut scratch,
-            &mut out,
-            &mut origins,
-            lent,
-            want,
-        ),
-        b"REWRITE",
-        want,
-        note,
-    );
-}
-
-fn account(
-    book: &[u8],
-    tape: &[u8],
-    rows: &mut [u8],
-    sets: &mut [u64],
-    scratch: &mut [u8],
-    lines: &mut [u16],
-    lent: Lent,
-    want: Want,
-) -> bool
-    requires { ⌜ (lent .rows ≤ length (now rows)) × (lent .sets ≤ length (now sets)) × (lent .scratch ≤ length (now scratch)) × (lent .lines ≤ length (now lines)) ⌝ }
-{
-    let some_rows = lent.rows;
-    let some_sets = lent.sets;
-    let some_scratch = lent.scratch;
-    let some_lines = lent.lines;
+    let mut lines = [expect::OLD as u16; LINES];
+    let some_rows = within(lent.rows, ROOM_ROWS);
+    let some_sets = within(lent.sets, ROOM_SETS);
+    let some_scratch = within(lent.scratch, SCRATCH);
+    let some_lines = within(lent.lines, LINES);
     let r = rewriter::account(
         book,
         tape,
@@ -210,39 +210,38 @@ fn account(
         &mut lines[0..some_lines],
     );
     let tables = expect::tables_after(want.reply, want.tables);
-    let passes = both(
-        hold::rows_hold(rows, tables),
-        both(
-            hold::sets_hold(sets, tables),
-            hold::scratch_holds(scratch, tables, tape.len()),
+    let built = both(
+        hold::bytes_hold(
+            &rows,
+            Expected {
+                buffer: expect::ROWS,
+                tables,
+                front: 0,
+            },
         ),
+        hold::sets_hold(&sets, tables),
     );
-    let ok = both(passes, hold::lines_hold(lines, want.first));
-    both(ok, numbers_are(want, r.reply, r.place, r.candidates, 0, 0))
-}
-
-fn account_case(book: &[u8], tape: &[u8], lent: Lent, want: Want, note: &[u8])
-    requires { ⌜ Room lent ⌝ }
-{
-    let mut rows = [expect::OLD; ROOM_ROWS];
-    let mut sets = [expect::OLD as u64; ROOM_SETS];
-    let mut scratch = [expect::OLD; SCRATCH];
-    let mut lines = [expect::OLD as u16; LINES];
-    report(
-        account(
-            book,
-            tape,
-            &mut rows,
-            &mut sets,
-            &mut scratch,
-            &mut lines,
-            lent,
-            want,
-        ),
-        b"ACCOUNT",
-        want,
-        note,
+    let passed = hold::bytes_hold(
+        &scratch,
+        Expected {
+            buffer: expect::SCRATCH,
+            tables,
+            front: tape.len(),
+        },
     );
+    let written = hold::words_hold(
+        &lines,
+        Expected {
+            buffer: expect::LINES,
+            tables,
+            front: want.first,
+        },
+    );
+    let ok = both(
+        both(built, both(passed, written)),
+        numbers_are(want, r.reply, r.place, r.candidates, 0, 0),
+    );
+    report(ok, b"ACCOUNT", want, note);
 }
 
 // The part that SHOW hands back, and where it starts.
