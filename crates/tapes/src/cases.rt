@@ -1,4 +1,8 @@
 // The cases: books, tapes and room, with what document 01 says of each.
+ghost use Prim.Native.Nat.{_+_, _≤_};
+ghost use Rattle.sets.specs.Workspace.{rowBytes, setWords};
+ghost use Rattle.stretches.specs.Buffers.{longestTape};
+ghost use Rattle.tapes.specs.Room.{Room};
 use super::LINES;
 use super::Lent;
 use super::OUT;
@@ -29,14 +33,11 @@ const STRETCHES: usize = LONGEST_TAPE * (LONGEST_TAPE + 1) / 2;
 
 const TOO_LONG: usize = LONGEST_TAPE + 1;
 
-fn lend(
-    rows: usize,
-    sets: usize,
-    scratch: usize,
-    out: usize,
-    origins: usize,
-    lines: usize,
-) -> Lent {
+fn lend(rows: usize, sets: usize, scratch: usize, out: usize, origins: usize, lines: usize) -> Lent
+    requires { ⌜ (rows ≤ rowBytes + 8) × (sets ≤ setWords + 8) × (scratch ≤ longestTape + 4) ⌝ }
+    requires { ⌜ (out ≤ 6150) × (origins ≤ 6150) × (lines ≤ 10250) ⌝ }
+    ensures { λ r. ⌜ Room r ⌝ }
+{
     Lent {
         rows,
         sets,
@@ -48,7 +49,9 @@ fn lend(
 }
 
 // More than any case needs.
-fn ample() -> Lent {
+fn ample() -> Lent
+    ensures { λ r. ⌜ Room r ⌝ }
+{
     lend(ROW_BYTES + 8, SET_WORDS + 8, SCRATCH, OUT, OUT, LINES)
 }
 

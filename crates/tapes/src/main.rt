@@ -1,6 +1,8 @@
 // Runs what document 01 gives and does not mark as proved, and compares: the limits, and every reply number with its place, its counts
 // and what stands in each buffer afterwards. A line a case: ok or WRONG, operation, reply, place.
 ghost use Prim.Native.Nat.{_≤_};
+ghost use lib.ListN.{length};
+ghost use Rattle.tapes.specs.Room.{Room};
 
 mod cases; // cases.rt: the cases
 mod books; // books.rt: the books of the cases
@@ -33,7 +35,7 @@ struct Want {
     third: usize,
 }
 
-// How many elements of each buffer are lent, as far as there is room.
+// How many elements of each buffer are lent.
 struct Lent {
     rows: usize,
     sets: usize,
@@ -49,10 +51,6 @@ struct Expected {
     buffer: u8,
     tables: u8,
     front: usize,
-}
-
-fn both(a: bool, b: bool) -> bool {
-    a && b
 }
 
 fn report(ok: bool, operation: &[u8], want: Want, note: &[u8]) {
@@ -79,11 +77,11 @@ fn numbers_are(
     second: usize,
     third: usize,
 ) -> bool {
-    let counts = both(
-        first == want.first,
-        both(second == want.second, third == want.third),
-    );
-    both(reply == want.reply, both(place == want.place, counts))
+    (reply == want.reply)
+        & (place == want.place)
+        & (first == want.first)
+        & (second == want.second)
+        & (third == want.third)
 }
 
 fn check_case(book: &[u8], want: Want, note: &[u8]) {
@@ -96,48 +94,86 @@ fn check_case(book: &[u8], want: Want, note: &[u8]) {
     );
 }
 
-fn within(n: usize, room: usize) -> usize
-    ensures { λ r. ⌜ r ≤ room ⌝ }
-{
-    if n < room { n } else { room }
+fn built(rows: &[u8], sets: &[u64], tables: u8) -> bool {
+    let expected = Expected {
+        buffer: expect::ROWS,
+        tables,
+        front: 0,
+    };
+    hold::bytes_hold(rows, expected) & hold::sets_hold(sets, tables)
 }
 
-fn build_case(book: &[u8], lent: Lent, want: Want, note: &[u8]) {
-    let mut rows = [expect::OLD; ROOM_ROWS];
-    let mut sets = [expect::OLD as u64; ROOM_SETS];
-    let some_rows = within(lent.rows, ROOM_ROWS);
-    let some_sets = within(lent.sets, ROOM_SETS);
+fn passed(rows: &[u8], sets: &[u64], scratch: &[u8], tables: u8, n: usize) -> bool {
+    let expected = Expected {
+        buffer: expect::SCRATCH,
+        tables,
+        front: n,
+    };
+    built(rows, sets, tables) & hold::bytes_hold(scratch, expected)
+}
+
+fn written(out: &[u8], origins: &[u16], front: usize) -> bool {
+    let symbols = Expected {
+        buffer: expect::OUT,
+        tables: expect::UNTOUCHED,
+        front,
+    };
+    let positions = Expected {
+        buffer: expect::ORIGINS,
+        tables: expect::UNTOUCHED,
+        front,
+    };
+    hold::bytes_hold(out, symbols) & hold::words_hold(origins, positions)
+}
+
+fn listed(lines: &[u16], front: usize) -> bool {
+    let expected = Expected {
+        buffer: expect::LINES,
+        tables: expect::UNTOUCHED,
+        front,
+    };
+    hold::words_hold(lines, expected)
+}
+
+fn build(book: &[u8], rows: &mut [u8], sets: &mut [u64], lent: Lent, want: Want) -> bool
+    requires { ⌜ (lent .rows ≤ length (now rows)) × (lent .sets ≤ length (now sets)) ⌝ }
+{
+    let some_rows = lent.rows;
+    let some_sets = lent.sets;
     let r = sets::build(book, &mut rows[0..some_rows], &mut sets[0..some_sets]);
     let tables = expect::tables_after(want.reply, want.tables);
-    let built = both(
-        hold::bytes_hold(
-            &rows,
-            Expected {
-                buffer: expect::ROWS,
-                tables,
-                front: 0,
-            },
-        ),
-        hold::sets_hold(&sets, tables),
-    );
-    let ok = both(
-        built,
-        numbers_are(want, r.reply, r.place, r.left, r.right, 0),
-    );
+    let ok = built(rows, sets, tables);
+    ok & numbers_are(want, r.reply, r.place, r.left, r.right, 0)
+}
+
+fn build_case(book: &[u8], lent: Lent, want: Want, note: &[u8])
+    requires { ⌜ Room lent ⌝ }
+{
+    let mut rows = [expect::OLD; ROOM_ROWS];
+    let mut sets = [expect::OLD as u64; ROOM_SETS];
+    let ok = build(book, &mut rows, &mut sets, lent, want);
     report(ok, b"BUILD", want, note);
 }
 
-fn rewrite_case(book: &[u8], tape: &[u8], lent: Lent, want: Want, note: &[u8]) {
-    let mut rows = [expect::OLD; ROOM_ROWS];
-    let mut sets = [expect::OLD as u64; ROOM_SETS];
-    let mut scratch = [expect::OLD; SCRATCH];
-    let mut out = [expect::OLD; OUT];
-    let mut origins = [expect::OLD as u16; OUT];
-    let some_rows = within(lent.rows, ROOM_ROWS);
-    let some_sets = within(lent.sets, ROOM_SETS);
-    let some_scratch = within(lent.scratch, SCRATCH);
-    let some_out = within(lent.out, OUT);
-    let some_origins = within(lent.origins, OUT);
+fn rewrite(
+    book: &[u8],
+    tape: &[u8],
+    rows: &mut [u8],
+    sets: &mut [u64],
+    scratch: &mut [u8],
+    out: &mut [u8],
+    origins: &mut [u16],
+    lent: Lent,
+    want: Want,
+) -> bool
+    requires { ⌜ (lent .rows ≤ length (now rows)) × (lent .sets ≤ length (now sets)) × (lent .scratch ≤ length (now scratch)) ⌝ }
+    requires { ⌜ (lent .out ≤ length (now out)) × (lent .origins ≤ length (now origins)) ⌝ }
+{
+    let some_rows = lent.rows;
+    let some_sets = lent.sets;
+    let some_scratch = lent.scratch;
+    let some_out = lent.out;
+    let some_origins = lent.origins;
     let r = rewriter::rewrite(
         book,
         tape,
@@ -148,59 +184,49 @@ fn rewrite_case(book: &[u8], tape: &[u8], lent: Lent, want: Want, note: &[u8]) {
         &mut origins[0..some_origins],
     );
     let tables = expect::tables_after(want.reply, want.tables);
-    let built = both(
-        hold::bytes_hold(
-            &rows,
-            Expected {
-                buffer: expect::ROWS,
-                tables,
-                front: 0,
-            },
-        ),
-        hold::sets_hold(&sets, tables),
-    );
-    let passed = hold::bytes_hold(
-        &scratch,
-        Expected {
-            buffer: expect::SCRATCH,
-            tables,
-            front: tape.len(),
-        },
-    );
-    let written = both(
-        hold::bytes_hold(
-            &out,
-            Expected {
-                buffer: expect::OUT,
-                tables,
-                front: want.first,
-            },
-        ),
-        hold::words_hold(
-            &origins,
-            Expected {
-                buffer: expect::ORIGINS,
-                tables,
-                front: want.first,
-            },
-        ),
-    );
-    let ok = both(
-        both(built, both(passed, written)),
-        numbers_are(want, r.reply, r.place, r.length, r.taken, 0),
+    let ok = passed(rows, sets, scratch, tables, tape.len()) & written(out, origins, want.first);
+    ok & numbers_are(want, r.reply, r.place, r.length, r.taken, 0)
+}
+
+fn rewrite_case(book: &[u8], tape: &[u8], lent: Lent, want: Want, note: &[u8])
+    requires { ⌜ Room lent ⌝ }
+{
+    let mut rows = [expect::OLD; ROOM_ROWS];
+    let mut sets = [expect::OLD as u64; ROOM_SETS];
+    let mut scratch = [expect::OLD; SCRATCH];
+    let mut out = [expect::OLD; OUT];
+    let mut origins = [expect::OLD as u16; OUT];
+    let ok = rewrite(
+        book,
+        tape,
+        &mut rows,
+        &mut sets,
+        &mut scratch,
+        &mut out,
+        &mut origins,
+        lent,
+        want,
     );
     report(ok, b"REWRITE", want, note);
 }
 
-fn account_case(book: &[u8], tape: &[u8], lent: Lent, want: Want, note: &[u8]) {
-    let mut rows = [expect::OLD; ROOM_ROWS];
-    let mut sets = [expect::OLD as u64; ROOM_SETS];
-    let mut scratch = [expect::OLD; SCRATCH];
-    let mut lines = [expect::OLD as u16; LINES];
-    let some_rows = within(lent.rows, ROOM_ROWS);
-    let some_sets = within(lent.sets, ROOM_SETS);
-    let some_scratch = within(lent.scratch, SCRATCH);
-    let some_lines = within(lent.lines, LINES);
+fn account(
+    book: &[u8],
+    tape: &[u8],
+    rows: &mut [u8],
+    sets: &mut [u64],
+    scratch: &mut [u8],
+    lines: &mut [u16],
+    lent: Lent,
+    want: Want,
+) -> bool
+    requires { ⌜ (lent .rows ≤ length (now rows)) × (lent .sets ≤ length (now sets)) × (lent .scratch ≤ length (now scratch)) ⌝ }
+    requires { ⌜ lent .lines ≤ length (now lines) ⌝ }
+{
+    let some_rows = lent.rows;
+    let some_sets = lent.sets;
+    let some_scratch = lent.scratch;
+    let some_lines = lent.lines;
     let r = rewriter::account(
         book,
         tape,
@@ -210,36 +236,26 @@ fn account_case(book: &[u8], tape: &[u8], lent: Lent, want: Want, note: &[u8]) {
         &mut lines[0..some_lines],
     );
     let tables = expect::tables_after(want.reply, want.tables);
-    let built = both(
-        hold::bytes_hold(
-            &rows,
-            Expected {
-                buffer: expect::ROWS,
-                tables,
-                front: 0,
-            },
-        ),
-        hold::sets_hold(&sets, tables),
-    );
-    let passed = hold::bytes_hold(
-        &scratch,
-        Expected {
-            buffer: expect::SCRATCH,
-            tables,
-            front: tape.len(),
-        },
-    );
-    let written = hold::words_hold(
-        &lines,
-        Expected {
-            buffer: expect::LINES,
-            tables,
-            front: want.first,
-        },
-    );
-    let ok = both(
-        both(built, both(passed, written)),
-        numbers_are(want, r.reply, r.place, r.candidates, 0, 0),
+    let ok = passed(rows, sets, scratch, tables, tape.len()) & listed(lines, want.first);
+    ok & numbers_are(want, r.reply, r.place, r.candidates, 0, 0)
+}
+
+fn account_case(book: &[u8], tape: &[u8], lent: Lent, want: Want, note: &[u8])
+    requires { ⌜ Room lent ⌝ }
+{
+    let mut rows = [expect::OLD; ROOM_ROWS];
+    let mut sets = [expect::OLD as u64; ROOM_SETS];
+    let mut scratch = [expect::OLD; SCRATCH];
+    let mut lines = [expect::OLD as u16; LINES];
+    let ok = account(
+        book,
+        tape,
+        &mut rows,
+        &mut sets,
+        &mut scratch,
+        &mut lines,
+        lent,
+        want,
     );
     report(ok, b"ACCOUNT", want, note);
 }
@@ -257,7 +273,7 @@ fn show_case(tape: &[u8], lines: &[u16], line: usize, part: &[u8], start: usize,
         third: 0,
     };
     report(
-        both(check::same(shown, part), b.start == start),
+        check::same(shown, part) & (b.start == start),
         b"SHOW",
         want,
         note,
