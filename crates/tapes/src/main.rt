@@ -10,8 +10,11 @@ mod expect; // expect.rt: what must stand in each buffer
 mod hold; // hold.rt: whole buffers compared
 
 use libc::STDOUT_FILENO;
+use rewriter::Accounted;
 use rewriter::LINE_WORDS;
 use rewriter::LONGEST_TAPE;
+use rewriter::Rewritten;
+use sets::Built;
 
 // The room there is: some elements more than the workspace, the scratch of the longest tape, its output and its account need. Every
 // second symbol of that tape becomes two.
@@ -135,15 +138,13 @@ fn listed(lines: &[u16], front: usize) -> bool {
     hold::words_hold(lines, expected)
 }
 
-fn build(book: &[u8], rows: &mut [u8], sets: &mut [u64], lent: Lent, want: Want) -> bool
+// BUILD with as much of the workspace as is lent.
+fn build(book: &[u8], rows: &mut [u8], sets: &mut [u64], lent: Lent) -> Built
     requires { ⌜ (lent .rows ≤ length (now rows)) × (lent .sets ≤ length (now sets)) ⌝ }
 {
     let some_rows = lent.rows;
     let some_sets = lent.sets;
-    let r = sets::build(book, &mut rows[0..some_rows], &mut sets[0..some_sets]);
-    let tables = expect::tables_after(want.reply, want.tables);
-    let ok = built(rows, sets, tables);
-    ok & numbers_are(want, r.reply, r.place, r.left, r.right, 0)
+    sets::build(book, &mut rows[0..some_rows], &mut sets[0..some_sets])
 }
 
 fn build_case(book: &[u8], lent: Lent, want: Want, note: &[u8])
@@ -151,10 +152,13 @@ fn build_case(book: &[u8], lent: Lent, want: Want, note: &[u8])
 {
     let mut rows = [expect::OLD; ROOM_ROWS];
     let mut sets = [expect::OLD as u64; ROOM_SETS];
-    let ok = build(book, &mut rows, &mut sets, lent, want);
+    let r = build(book, &mut rows, &mut sets, lent);
+    let tables = expect::tables_after(want.reply, want.tables);
+    let ok = built(&rows, &sets, tables) & numbers_are(want, r.reply, r.place, r.left, r.right, 0);
     report(ok, b"BUILD", want, note);
 }
 
+// REWRITE with as much of each buffer as is lent.
 fn rewrite(
     book: &[u8],
     tape: &[u8],
@@ -164,8 +168,7 @@ fn rewrite(
     out: &mut [u8],
     origins: &mut [u16],
     lent: Lent,
-    want: Want,
-) -> bool
+) -> Rewritten
     requires { ⌜ (lent .rows ≤ length (now rows)) × (lent .sets ≤ length (now sets)) × (lent .scratch ≤ length (now scratch)) ⌝ }
     requires { ⌜ (lent .out ≤ length (now out)) × (lent .origins ≤ length (now origins)) ⌝ }
 {
@@ -174,7 +177,7 @@ fn rewrite(
     let some_scratch = lent.scratch;
     let some_out = lent.out;
     let some_origins = lent.origins;
-    let r = rewriter::rewrite(
+    rewriter::rewrite(
         book,
         tape,
         &mut rows[0..some_rows],
@@ -182,10 +185,7 @@ fn rewrite(
         &mut scratch[0..some_scratch],
         &mut out[0..some_out],
         &mut origins[0..some_origins],
-    );
-    let tables = expect::tables_after(want.reply, want.tables);
-    let ok = passed(rows, sets, scratch, tables, tape.len()) & written(out, origins, want.first);
-    ok & numbers_are(want, r.reply, r.place, r.length, r.taken, 0)
+    )
 }
 
 fn rewrite_case(book: &[u8], tape: &[u8], lent: Lent, want: Want, note: &[u8])
@@ -196,7 +196,7 @@ fn rewrite_case(book: &[u8], tape: &[u8], lent: Lent, want: Want, note: &[u8])
     let mut scratch = [expect::OLD; SCRATCH];
     let mut out = [expect::OLD; OUT];
     let mut origins = [expect::OLD as u16; OUT];
-    let ok = rewrite(
+    let r = rewrite(
         book,
         tape,
         &mut rows,
@@ -205,11 +205,15 @@ fn rewrite_case(book: &[u8], tape: &[u8], lent: Lent, want: Want, note: &[u8])
         &mut out,
         &mut origins,
         lent,
-        want,
     );
+    let tables = expect::tables_after(want.reply, want.tables);
+    let ok = passed(&rows, &sets, &scratch, tables, tape.len())
+        & written(&out, &origins, want.first)
+        & numbers_are(want, r.reply, r.place, r.length, r.taken, 0);
     report(ok, b"REWRITE", want, note);
 }
 
+// ACCOUNT with as much of each buffer as is lent.
 fn account(
     book: &[u8],
     tape: &[u8],
@@ -218,8 +222,7 @@ fn account(
     scratch: &mut [u8],
     lines: &mut [u16],
     lent: Lent,
-    want: Want,
-) -> bool
+) -> Accounted
     requires { ⌜ (lent .rows ≤ length (now rows)) × (lent .sets ≤ length (now sets)) × (lent .scratch ≤ length (now scratch)) ⌝ }
     requires { ⌜ lent .lines ≤ length (now lines) ⌝ }
 {
@@ -227,17 +230,14 @@ fn account(
     let some_sets = lent.sets;
     let some_scratch = lent.scratch;
     let some_lines = lent.lines;
-    let r = rewriter::account(
+    rewriter::account(
         book,
         tape,
         &mut rows[0..some_rows],
         &mut sets[0..some_sets],
         &mut scratch[0..some_scratch],
         &mut lines[0..some_lines],
-    );
-    let tables = expect::tables_after(want.reply, want.tables);
-    let ok = passed(rows, sets, scratch, tables, tape.len()) & listed(lines, want.first);
-    ok & numbers_are(want, r.reply, r.place, r.candidates, 0, 0)
+    )
 }
 
 fn account_case(book: &[u8], tape: &[u8], lent: Lent, want: Want, note: &[u8])
@@ -247,7 +247,7 @@ fn account_case(book: &[u8], tape: &[u8], lent: Lent, want: Want, note: &[u8])
     let mut sets = [expect::OLD as u64; ROOM_SETS];
     let mut scratch = [expect::OLD; SCRATCH];
     let mut lines = [expect::OLD as u16; LINES];
-    let ok = account(
+    let r = account(
         book,
         tape,
         &mut rows,
@@ -255,8 +255,11 @@ fn account_case(book: &[u8], tape: &[u8], lent: Lent, want: Want, note: &[u8])
         &mut scratch,
         &mut lines,
         lent,
-        want,
     );
+    let tables = expect::tables_after(want.reply, want.tables);
+    let ok = passed(&rows, &sets, &scratch, tables, tape.len())
+        & listed(&lines, want.first)
+        & numbers_are(want, r.reply, r.place, r.candidates, 0, 0);
     report(ok, b"ACCOUNT", want, note);
 }
 
