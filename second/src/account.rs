@@ -1,7 +1,8 @@
 //! The account: document 01, "The account and SHOW".
 
-use crate::candidates::{Candidates, Stretch};
+use crate::candidates::Stretch;
 use crate::reading::{Reading, Wrong};
+use crate::stretches::Stretches;
 
 /// "Five 16-bit words a candidate: rule, start, end, verdict, deciding start."
 pub const WORDS_A_LINE: usize = 5;
@@ -13,20 +14,15 @@ const LOWER_RULE_TAKEN: u16 = 2;
 const INSIDE: u16 = 3;
 
 /// How many lines the account has.
-pub fn length(candidates: &Candidates, taken: &[Stretch]) -> usize {
-    if candidates.reading.is(Wrong::TakenLinesAlone) {
-        return taken.len();
-    }
-    candidates.count()
+pub fn length(stretches: &Stretches, reading: Reading) -> usize {
+    reading.value(stretches.count, Wrong::TakenLinesAlone, stretches.taken.len())
 }
 
 /// All lines; to be asked for only when there is room for them.
-pub fn lines(candidates: &Candidates, taken: &[Stretch]) -> Vec<Line> {
-    let reading = candidates.reading;
-    let mut all: Vec<Stretch> = (0..candidates.tape.len()).flat_map(|start| candidates.at(start)).collect();
+pub fn lines(stretches: &Stretches, reading: Reading) -> Vec<Line> {
+    let mut all = reading.value(&stretches.listed, Wrong::TakenLinesAlone, &stretches.taken).clone();
     all.sort_by_key(|stretch| order(stretch, reading));
-    let lines = all.iter().map(|stretch| line(*stretch, taken, reading));
-    lines.filter(|line| line[3] == TAKEN || !reading.is(Wrong::TakenLinesAlone)).collect()
+    all.iter().map(|stretch| line(*stretch, &stretches.taken, reading)).collect()
 }
 
 /// "Order: start, end, rule."

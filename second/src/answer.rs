@@ -17,7 +17,7 @@ pub struct Lent {
 }
 
 impl Lent {
-    /// "Before the call every lent buffer is filled with the byte `fill`."
+    /// The buffers as the operation finds them: the call's fill in every byte.
     pub fn before(call: &Call) -> Lent {
         let (word, long) = (u16::from_le_bytes([call.fill; 2]), u64::from_le_bytes([call.fill; 8]));
         let lengths = call.lengths;
@@ -45,7 +45,7 @@ pub struct Answer {
     pub operation: Operation,
     pub reply: u8,
     pub place: u64,
-    /// "the operation's counts in the order of its answer, unused ones 0"
+    /// What the operation counts, in the order in which it answers; 0 where it has no more to count.
     pub counts: [u64; 4],
     /// SHOW alone: the part handed back.
     pub part: Vec<u8>,

@@ -5,6 +5,7 @@ use crate::record::{self, ACCEPT, ARC, BOTH, END, FOCUS, LONGEST_WORD, RIGHT, RU
 
 /// "symbols 0 to 15"
 pub const SYMBOLS: usize = 16;
+pub const HIGHEST_SYMBOL: u8 = SYMBOLS as u8 - 1;
 /// "rules 1 to 16; states at most 64; arcs at most 512"
 pub const MOST_RULES: usize = 16;
 pub const MOST_STATES: usize = 64;
@@ -18,6 +19,8 @@ pub struct Book {
     /// All states; "numbered from 0 as they appear" over the whole book.
     pub states: Vec<State>,
     pub arcs: Vec<Arc>,
+    /// For each state, those of the arcs that lead from it.
+    pub arcs_from: Vec<Vec<Arc>>,
 }
 
 #[derive(Clone, Copy)]
@@ -169,7 +172,8 @@ fn has_bad_word(length: usize, symbols: &[u8], reading: Reading) -> bool {
 }
 
 fn has_bad_symbols(lowest: u8, highest: u8, reading: Reading) -> bool {
-    let above = lowest > 15 || highest > reading.value(15, Wrong::HighestSixteen, 16);
+    let most = reading.value(HIGHEST_SYMBOL, Wrong::HighestSixteen, HIGHEST_SYMBOL + 1);
+    let above = lowest > HIGHEST_SYMBOL || highest > most;
     above || lowest > highest || reading.is(Wrong::LowestBelowHighest) && lowest == highest
 }
 
@@ -219,14 +223,19 @@ impl Book {
         let body = record.body.unwrap_or_default();
         match record.kind {
             RULE => self.words.push(body[1..1 + body[0] as usize].to_vec()),
-            STATE => self.states.push(State {
-                rule: self.words.len() - 1,
-                part: body[0],
-                start: body[1] & START != 0,
-                accept: body[1] & ACCEPT != 0,
-            }),
+            STATE => {
+                self.states.push(State {
+                    rule: self.words.len() - 1,
+                    part: body[0],
+                    start: body[1] & START != 0,
+                    accept: body[1] & ACCEPT != 0,
+                });
+                self.arcs_from.push(Vec::new());
+            }
             ARC => {
-                self.arcs.push(Arc { from: body[0] as usize, lowest: body[1], highest: body[2], to: body[3] as usize })
+                let arc = Arc { from: body[0] as usize, lowest: body[1], highest: body[2], to: body[3] as usize };
+                self.arcs.push(arc);
+                self.arcs_from[arc.from].push(arc);
             }
             _ => {}
         }

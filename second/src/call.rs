@@ -1,4 +1,4 @@
-//! One call of an operation, as the probe's request carries it.
+//! One call of an operation, as the door's request carries it.
 
 use std::io::{self, Read};
 
@@ -56,7 +56,7 @@ pub struct Call {
 }
 
 /// The longest lengths a request may carry: book, tape, rows, sets, scratch, out, origins, lines.
-const LONGEST: [usize; 8] = [8192, 8192, 20_000, 1024, 8192, 40_000, 40_000, 65_536];
+const LONGEST: [usize; 8] = [65_536, 65_536, 40_000, 1024, 65_536, 65_536, 65_536, 131_072];
 pub const LONGEST_BOOK: usize = LONGEST[0];
 pub const LONGEST_TAPE: usize = LONGEST[1];
 pub const MOST_LINE_WORDS: usize = LONGEST[7];

@@ -1,7 +1,7 @@
 //! Candidates: document 01, "Which stretches are replaced".
 
 use crate::book::Book;
-use crate::language::{Arcs, Language};
+use crate::language::Language;
 use crate::reading::{Reading, Wrong};
 use crate::record::{FOCUS, LEFT, RIGHT};
 
@@ -13,111 +13,79 @@ pub struct Stretch {
     pub end: usize,
 }
 
-/// The candidates of one tape under one book, given out start by start: a tape at the limits has more than a
-/// hundred million of them.
+/// One tape under one book; whether a stretch is a candidate is worked out whenever it is asked.
 pub struct Candidates<'a> {
     pub book: &'a Book,
     pub tape: &'a [u8],
     pub reading: Reading,
-    arcs: Arcs,
-    /// For each rule and position, whether the left context holds there.
-    left: Vec<Vec<bool>>,
-    /// For each rule and position, whether the right context holds there.
-    right: Vec<Vec<bool>>,
 }
 
-impl<'a> Candidates<'a> {
-    pub fn of(book: &'a Book, tape: &'a [u8], reading: Reading) -> Candidates<'a> {
-        let arcs = Arcs::of(book, reading);
-        let rules = 0..book.words.len();
-        let left = rules.clone().map(|rule| left_context(book, &arcs, rule, tape, reading)).collect();
-        let right = rules.map(|rule| right_context(book, &arcs, rule, tape, reading)).collect();
-        let mut candidates = Candidates { book, tape, reading, arcs, left, right };
-        if reading.is(Wrong::OtherLeft) {
-            candidates.share_left();
-        }
-        candidates
-    }
-
-    fn share_left(&mut self) {
-        for position in 0..=self.tape.len() {
-            let held = self.left.iter().any(|left| left[position]);
-            self.left.iter_mut().for_each(|left| left[position] = held);
-        }
-    }
-
+impl Candidates<'_> {
     pub fn rules(&self) -> std::ops::Range<usize> {
         0..self.book.words.len()
     }
 
     pub fn language(&self, rule: usize, part: u8) -> Language<'_> {
-        Language::of(self.book, &self.arcs, rule, part, self.reading)
+        Language::of(self.book, rule, part, self.reading)
     }
 
-    pub fn left_holds(&self, rule: usize, position: usize) -> bool {
-        self.left[rule][position]
+    /// All candidates, start by start and there rule by rule.
+    pub fn all(&self) -> Vec<Stretch> {
+        (0..=self.tape.len()).flat_map(|start| self.at(start)).collect()
     }
 
-    /// The ends of the foci at one start, whatever the contexts say.
-    pub fn focus_ends(&self, rule: usize, start: usize) -> Vec<usize> {
-        self.language(rule, FOCUS).ends_from(self.tape, start)
-    }
-
-    /// The candidates of one rule at one start, if its left context is taken to hold there.
-    pub fn under_left(&self, rule: usize, start: usize) -> Vec<Stretch> {
-        let right = &self.right[rule];
-        let ends = self.focus_ends(rule, start).into_iter().filter(|end| right[*end]);
-        ends.map(|end| Stretch { rule, start, end }).collect()
-    }
-
-    /// All candidates at one start, rule by rule.
-    pub fn at(&self, start: usize) -> Vec<Stretch> {
+    fn at(&self, start: usize) -> Vec<Stretch> {
         let rules = self.rules().filter(|rule| self.left_holds(*rule, start));
         rules.flat_map(|rule| self.under_left(rule, start)).collect()
     }
 
-    pub fn count(&self) -> usize {
-        let starts = 0..self.tape.len();
-        starts.map(|start| self.rules().map(|rule| self.count_at(rule, start)).sum::<usize>()).sum()
+    /// The candidates of one rule at one start, if its left context is taken to hold there.
+    pub fn under_left(&self, rule: usize, start: usize) -> Vec<Stretch> {
+        self.foci(rule, start).into_iter().filter(|focus| self.right_holds(rule, focus.end)).collect()
     }
 
-    fn count_at(&self, rule: usize, start: usize) -> usize {
-        if !self.left_holds(rule, start) {
-            return 0;
+    /// The stretches at one start with "t from i to j is in its focus language", whatever the contexts say;
+    /// "(0 ≤ i < j ≤ n)".
+    pub fn foci(&self, rule: usize, start: usize) -> Vec<Stretch> {
+        let focus = self.language(rule, FOCUS);
+        let ends = (start + 1..=self.tape.len()).filter(|end| focus.holds(&self.tape[start..*end]));
+        ends.map(|end| Stretch { rule, start, end }).collect()
+    }
+
+    /// "some word ending at i is in r's left language"
+    pub fn left_holds(&self, rule: usize, i: usize) -> bool {
+        match self.reading.is(Wrong::OtherLeft) {
+            false => self.left_context(rule, i),
+            true => self.rules().any(|other| self.left_context(other, i)),
         }
-        let right = &self.right[rule];
-        self.focus_ends(rule, start).into_iter().filter(|end| right[*end]).count()
     }
-}
 
-/// "some word ending at i is in r's left language"
-fn left_context(book: &Book, arcs: &Arcs, rule: usize, tape: &[u8], reading: Reading) -> Vec<bool> {
-    let language = Language::of(book, arcs, rule, LEFT, reading);
-    if reading.is(Wrong::EmptyPartHolds) && Language::is_bare(book, rule, LEFT) {
-        return vec![true; tape.len() + 1];
+    fn left_context(&self, rule: usize, i: usize) -> bool {
+        let left = self.language(rule, LEFT);
+        if self.reading.is(Wrong::EmptyPartHolds) && left.is_bare() {
+            return true;
+        }
+        if self.reading.is(Wrong::LeftAnchored) {
+            return left.holds(&self.tape[..i]);
+        }
+        if self.reading.is(Wrong::LeftNotEmpty) {
+            return (0..i).any(|begin| left.holds(&self.tape[begin..i]));
+        }
+        left.holds_ending_at(self.tape, i)
     }
-    let positions = 0..=tape.len();
-    if reading.is(Wrong::LeftAnchored) {
-        return positions.map(|i| language.holds(&tape[..i])).collect();
-    }
-    if reading.is(Wrong::LeftNotEmpty) {
-        return positions.map(|i| (0..i).any(|begin| language.holds(&tape[begin..i]))).collect();
-    }
-    language.ending_at_each(tape)
-}
 
-/// "some word beginning at j is in its right language"
-fn right_context(book: &Book, arcs: &Arcs, rule: usize, tape: &[u8], reading: Reading) -> Vec<bool> {
-    let language = Language::of(book, arcs, rule, RIGHT, reading);
-    if reading.is(Wrong::EmptyPartHolds) && Language::is_bare(book, rule, RIGHT) {
-        return vec![true; tape.len() + 1];
+    /// "some word beginning at j is in its right language"
+    fn right_holds(&self, rule: usize, j: usize) -> bool {
+        let right = self.language(rule, RIGHT);
+        if self.reading.is(Wrong::EmptyPartHolds) && right.is_bare() {
+            return true;
+        }
+        if self.reading.is(Wrong::RightAnchored) {
+            return right.holds(&self.tape[j..]);
+        }
+        if self.reading.is(Wrong::RightNotEmpty) {
+            return (j + 1..=self.tape.len()).any(|end| right.holds(&self.tape[j..end]));
+        }
+        right.holds_beginning_at(self.tape, j)
     }
-    let positions = 0..=tape.len();
-    if reading.is(Wrong::RightAnchored) {
-        return positions.map(|j| language.holds(&tape[j..])).collect();
-    }
-    if reading.is(Wrong::RightNotEmpty) {
-        return positions.map(|j| !language.ends_from(tape, j).is_empty()).collect();
-    }
-    language.beginning_at_each(tape)
 }

@@ -1,4 +1,4 @@
-//! `second check`: random calls through a probe, compared with the reference.
+//! `second check`: random calls through a door, compared with the reference.
 
 use std::io;
 use std::slice::from_ref;
@@ -11,21 +11,21 @@ use crate::hex;
 use crate::shrink::shrink;
 use crate::tally::{Tally, WHOLE_RUN};
 
-/// Calls sent to one run of the probe.
+/// Calls sent to one run of the door.
 const CALLS_A_RUN: u64 = 500;
 
 /// Compares `count` calls; true if all agree. The last line printed says how many were compared.
-pub fn check(probe: &Command, seed: u64, count: u64) -> io::Result<bool> {
-    println!("seed {seed}, {count} calls, probe: {}", probe.line());
+pub fn check(door: &Command, seed: u64, count: u64) -> io::Result<bool> {
+    println!("seed {seed}, {count} calls, door: {}", door.line());
     let mut tally = Tally::default();
     let mut first = 0;
     while first < count {
         let calls: Vec<Call> = (first..count.min(first + CALLS_A_RUN)).map(|number| call(seed, number)).collect();
-        let comparison = compare(probe, &calls)?;
+        let comparison = compare(door, &calls)?;
         if let Some(difference) = comparison.difference {
             let passed = first + difference.at as u64;
             println!("call {passed} of seed {seed} differs: {}", difference.words);
-            report_smallest(probe, calls[difference.at].clone(), difference)?;
+            report_smallest(door, calls[difference.at].clone(), difference)?;
             println!("{passed} passed, 1 failed");
             return Ok(false);
         }
@@ -39,9 +39,9 @@ pub fn check(probe: &Command, seed: u64, count: u64) -> io::Result<bool> {
     Ok(never_met.is_empty())
 }
 
-fn report_smallest(probe: &Command, failing: Call, difference: Difference) -> io::Result<()> {
+fn report_smallest(door: &Command, failing: Call, difference: Difference) -> io::Result<()> {
     let mut differs = |calls: &[Call]| {
-        let comparison = compare(probe, calls).ok()?;
+        let comparison = compare(door, calls).ok()?;
         comparison.difference.map(|difference| difference.at)
     };
     // A call that fails only after others is printed as it stands.
@@ -49,15 +49,15 @@ fn report_smallest(probe: &Command, failing: Call, difference: Difference) -> io
         Some(_) => shrink(failing, &mut differs),
         None => failing,
     };
-    let words = compare(probe, from_ref(&smallest))?.difference.map_or(difference.words, |difference| difference.words);
+    let words = compare(door, from_ref(&smallest))?.difference.map_or(difference.words, |difference| difference.words);
     println!("smallest case found: {}{words}", smallest.in_words());
-    println!("repeat it with: second one --probe \"{}\" {}", probe.line(), hex::of(&smallest.to_bytes()));
+    println!("repeat it with: second one --door \"{}\" {}", door.line(), hex::of(&smallest.to_bytes()));
     Ok(())
 }
 
 /// `second one` and `second call`: one call again, with both answers.
-pub fn one(probe: &Command, call: &Call) -> io::Result<bool> {
-    let comparison = compare(probe, from_ref(call))?;
+pub fn one(door: &Command, call: &Call) -> io::Result<bool> {
+    let comparison = compare(door, from_ref(call))?;
     let expected = &comparison.expected[0];
     print!("{}", call.in_words());
     println!("expected reply {}, place {}, counts {:?}", expected.reply, expected.place, expected.counts);

@@ -1,4 +1,4 @@
-//! Calls answered by the reference and by a probe, compared element by element.
+//! Calls answered by the reference and by a door, compared element by element.
 
 use std::io;
 use std::process::ExitStatus;
@@ -9,7 +9,7 @@ use crate::command::Command;
 use crate::operations;
 use crate::reading::Reading;
 
-/// The first call of a list on which the probe differs, and how.
+/// The first call of a list on which the door differs, and how.
 pub struct Difference {
     pub at: usize,
     pub words: String,
@@ -22,9 +22,9 @@ pub struct Comparison {
     pub expected: Vec<Answer>,
 }
 
-/// Sends all the calls to one run of the probe and works out the reference's answers meanwhile.
-pub fn compare(probe: &Command, calls: &[Call]) -> io::Result<Comparison> {
-    let running = probe.start(calls.iter().flat_map(Call::to_bytes).collect())?;
+/// Sends all the calls to one run of the door and works out the reference's answers meanwhile.
+pub fn compare(door: &Command, calls: &[Call]) -> io::Result<Comparison> {
+    let running = door.start(calls.iter().flat_map(Call::to_bytes).collect())?;
     let expected: Vec<Answer> = calls.iter().map(|call| operations::answer(call, Reading::TRUE)).collect();
     let (answers, status) = running.finish()?;
     let difference = first_difference(calls, &expected, &answers, status);
@@ -36,7 +36,7 @@ fn first_difference(calls: &[Call], expected: &[Answer], answers: &[u8], status:
     for (at, (call, expected)) in calls.iter().zip(expected).enumerate() {
         let words = match Answer::read(call, &mut rest) {
             Ok(answer) => expected.difference(&answer),
-            Err(error) => Some(format!("no whole answer ({error}; the probe ended with {status})")),
+            Err(error) => Some(format!("no whole answer ({error}; the door ended with {status})")),
         };
         if let Some(words) = words {
             return Some(Difference { at, words });
@@ -46,5 +46,5 @@ fn first_difference(calls: &[Call], expected: &[Answer], answers: &[u8], status:
     if !rest.is_empty() {
         return Some(Difference { at: last, words: format!("{} bytes follow the last answer", rest.len()) });
     }
-    (!status.success()).then(|| Difference { at: last, words: format!("the probe ended with {status}") })
+    (!status.success()).then(|| Difference { at: last, words: format!("the door ended with {status}") })
 }

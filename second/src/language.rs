@@ -1,140 +1,51 @@
-//! The language of one part of one rule, decided by following its runs over the tape, one start after another.
+//! The language of one part of one rule: the words of its runs from a start state to an accept state.
 
-use crate::book::{Book, SYMBOLS};
+use crate::book::Book;
 use crate::reading::{Reading, Wrong};
+use crate::run::{self, States};
 
-/// States that are alive at one moment of a run, state s worth 2^s.
-type Live = u64;
-
-/// The arcs of a whole book: for a state and a symbol, the states one arc further.
-pub struct Arcs {
-    next: Vec<[Live; SYMBOLS]>,
-}
-
-impl Arcs {
-    pub fn of(book: &Book, reading: Reading) -> Arcs {
-        let mut next = vec![[0; SYMBOLS]; book.states.len()];
-        for arc in &book.arcs {
-            for symbol in (0..SYMBOLS as u8).filter(|symbol| arc.open(*symbol, reading)) {
-                next[arc.from][symbol as usize] |= 1 << arc.to;
-            }
-        }
-        Arcs { next }
-    }
-
-    fn step(&self, live: Live, symbol: u8) -> Live {
-        let mut after = 0;
-        let mut left = live;
-        while left != 0 {
-            after |= self.next[left.trailing_zeros() as usize][symbol as usize];
-            left &= left - 1;
-        }
-        after
-    }
-}
-
-/// The words that lead from a start state to an accept state of one part.
+/// One part of one rule: "A part may have several start and accept states, or none."
 pub struct Language<'a> {
-    arcs: &'a Arcs,
-    starts: Live,
-    accepts: Live,
+    book: &'a Book,
+    reading: Reading,
+    states: States,
+    pub starts: States,
+    accepts: States,
 }
 
 impl<'a> Language<'a> {
-    pub fn of(book: &Book, arcs: &'a Arcs, rule: usize, part: u8, reading: Reading) -> Language<'a> {
-        let mut language = Language { arcs, starts: 0, accepts: 0 };
-        for (number, state) in book.states.iter().enumerate() {
-            if state.rule == rule && state.part == part {
-                language.starts |= Live::from(state.start) << number;
-                language.accepts |= Live::from(state.accept) << number;
-            }
-        }
+    pub fn of(book: &'a Book, rule: usize, part: u8, reading: Reading) -> Language<'a> {
+        let of_part = |state: &usize| book.states[*state].rule == rule && book.states[*state].part == part;
+        let states: States = (0..book.states.len()).filter(of_part).collect();
+        let mut starts: States = states.iter().copied().filter(|state| book.states[*state].start).collect();
+        let mut accepts: States = states.iter().copied().filter(|state| book.states[*state].accept).collect();
         if reading.is(Wrong::OneStart) {
-            language.starts &= language.starts.wrapping_neg();
+            starts.truncate(1);
         }
         if reading.is(Wrong::OneAccept) {
-            language.accepts &= language.accepts.wrapping_neg();
+            accepts.truncate(1);
         }
-        language
+        Language { book, reading, states, starts, accepts }
     }
 
-    fn accepts(&self, live: Live) -> bool {
-        live & self.accepts != 0
+    /// Whether the part has no states. "A part without states accepts no word"
+    pub fn is_bare(&self) -> bool {
+        self.states.is_empty()
     }
 
-    /// For each position of the tape, whether "some word ending at i" is in the language: every beginning is
-    /// tried. A run that stands as an earlier one stood at that position would go on as that one did, and is
-    /// dropped.
-    pub fn ending_at_each(&self, tape: &[u8]) -> Vec<bool> {
-        let mut holds = vec![false; tape.len() + 1];
-        let mut met = vec![Vec::new(); tape.len() + 1];
-        for begin in 0..=tape.len() {
-            let mut live = self.starts;
-            let mut at = begin;
-            while live != 0 && !met[at].contains(&live) {
-                met[at].push(live);
-                holds[at] |= self.accepts(live);
-                if at == tape.len() {
-                    break;
-                }
-                live = self.arcs.step(live, tape[at]);
-                at += 1;
-            }
-        }
-        holds
-    }
-
-    /// For each position of the tape, whether "some word beginning at j" is in the language: every ending is
-    /// tried, and what became of a run is remembered at each position it passed.
-    pub fn beginning_at_each(&self, tape: &[u8]) -> Vec<bool> {
-        let mut known = vec![Vec::new(); tape.len() + 1];
-        (0..=tape.len()).map(|begin| self.begins(tape, begin, &mut known)).collect()
-    }
-
-    fn begins(&self, tape: &[u8], begin: usize, known: &mut [Vec<(Live, bool)>]) -> bool {
-        let mut passed = Vec::new();
-        let mut live = self.starts;
-        let mut at = begin;
-        let holds = loop {
-            if let Some((_, holds)) = known[at].iter().find(|(met, _)| *met == live) {
-                break *holds;
-            }
-            passed.push((at, live));
-            if live == 0 || self.accepts(live) || at == tape.len() {
-                break self.accepts(live);
-            }
-            live = self.arcs.step(live, tape[at]);
-            at += 1;
-        };
-        for (at, live) in passed {
-            known[at].push((live, holds));
-        }
-        holds
-    }
-
-    /// The ends j above `begin` such that the tape from `begin` to j is in the language, smallest first.
-    pub fn ends_from(&self, tape: &[u8], begin: usize) -> Vec<usize> {
-        let mut ends = Vec::new();
-        let mut live = self.starts;
-        for end in begin + 1..=tape.len() {
-            live = self.arcs.step(live, tape[end - 1]);
-            if live == 0 {
-                break;
-            }
-            if self.accepts(live) {
-                ends.push(end);
-            }
-        }
-        ends
-    }
-
-    /// Whether one given word is in the language.
+    /// Whether a word is in the language.
     pub fn holds(&self, word: &[u8]) -> bool {
-        self.accepts(word.iter().fold(self.starts, |live, symbol| self.arcs.step(live, *symbol)))
+        let ends = |start: &usize| run::ends(self.book, *start, word, self.reading);
+        self.starts.iter().flat_map(ends).any(|end| self.accepts.contains(&end))
     }
 
-    /// Whether no state belongs to the part (a wrong reading asks).
-    pub fn is_bare(book: &Book, rule: usize, part: u8) -> bool {
-        !book.states.iter().any(|state| state.rule == rule && state.part == part)
+    /// Whether "some word ending at i" is in the language: every beginning is tried.
+    pub fn holds_ending_at(&self, tape: &[u8], i: usize) -> bool {
+        (0..=i).any(|begin| self.holds(&tape[begin..i]))
+    }
+
+    /// Whether "some word beginning at j" is in the language: every end is tried.
+    pub fn holds_beginning_at(&self, tape: &[u8], j: usize) -> bool {
+        (j..=tape.len()).any(|end| self.holds(&tape[j..end]))
     }
 }

@@ -1,12 +1,14 @@
 //! The independent second program: what document 01 says, worked out by brute force, and compared with what the
 //! proved operations do. It shares no code, no table and no constant with them.
 //!
-//! The reference is read in this order: `record`, `book`, `language`, `candidates`, `taken`, `output`, `account`,
-//! `sets`, `numbering`, `workspace`, `show`, `operations`, `program`. Beside it stand the random calls (`generate`),
-//! the driving of another program (`call`, `answer`, `command`, `comparison`), the search for a smallest failing case
-//! (`shrink`), and the commands (`check`, `check_program`, `serve`).
+//! The reference is read in this order: `record`, `book`, `run`, `language`, `candidates`, `taken`, `stretches`,
+//! `output`, `account`, `sets`, `numbering`, `workspace`, `show`, `operations`, `program`; `agreement` says where `fast`
+//! stands in for it. Beside it stand the random calls (`generate`), the driving of another program (`call`, `answer`,
+//! `command`, `comparison`), the search for a smallest failing case (`shrink`), and the commands (`check`,
+//! `check_program`, `serve`).
 
 pub mod account;
+pub mod agreement;
 pub mod answer;
 pub mod book;
 pub mod call;
@@ -17,6 +19,7 @@ pub mod check_program;
 pub mod command;
 pub mod comparison;
 pub mod draft;
+pub mod fast;
 pub mod generate;
 pub mod hand;
 pub mod hex;
@@ -29,10 +32,12 @@ pub mod peer;
 pub mod program;
 pub mod reading;
 pub mod record;
+pub mod run;
 pub mod serve;
 pub mod sets;
 pub mod show;
 pub mod shrink;
+pub mod stretches;
 pub mod taken;
 pub mod tally;
 pub mod workspace;

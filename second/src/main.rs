@@ -15,13 +15,13 @@ use second::reading::{Reading, Wrong};
 use second::serve;
 
 const USAGE: &str = "\
-second check SEED COUNT [--probe \"CMD ARGS\"]    compare COUNT calls with the probe (bin/run probe)
+second check SEED COUNT [--door \"CMD ARGS\"]     compare COUNT calls with the door (bin/door)
 second program SEED COUNT [--pads \"CMD ARGS\"]   compare COUNT tapes with the program (bin/run pads)
-second call SEED NUMBER [--probe \"CMD ARGS\"]   repeat one call of a run
-second one HEX [--probe \"CMD ARGS\"]             repeat one call, given as the bytes of its request
+second call SEED NUMBER [--door \"CMD ARGS\"]     repeat one call of a run
+second one HEX [--door \"CMD ARGS\"]              repeat one call, given as the bytes of its request
 second tapes HEX [--pads \"CMD ARGS\"]            repeat one input of the program, given as its bytes
 second peer NAME SEED COUNT                     compare COUNT books with foma or hfst (the script peers does it)
-second serve [--wrong NAME]                     answer requests as the probe does
+second serve [--wrong NAME]                     answer requests as the door does
 second pads [--wrong NAME]                      behave as the program does
 second wrong                                    list the wrong readings
 SEED is a number, or the word fresh.";
@@ -29,7 +29,7 @@ SEED is a number, or the word fresh.";
 /// The words of the command line and the values of its options.
 struct Arguments {
     words: Vec<String>,
-    probe: Command,
+    door: Command,
     pads: Command,
     reading: Reading,
 }
@@ -48,7 +48,7 @@ fn main() -> ExitCode {
 fn arguments() -> io::Result<Arguments> {
     let mut arguments = Arguments {
         words: Vec::new(),
-        probe: Command::new("bin/run probe"),
+        door: Command::new("bin/door"),
         pads: Command::new("bin/run pads"),
         reading: Reading::TRUE,
     };
@@ -56,7 +56,7 @@ fn arguments() -> io::Result<Arguments> {
     while let Some(word) = given.next() {
         let mut value = || given.next().ok_or_else(|| io::Error::other(format!("{word} needs a value")));
         match word.as_str() {
-            "--probe" => arguments.probe = Command::new(&value()?),
+            "--door" => arguments.door = Command::new(&value()?),
             "--pads" => arguments.pads = Command::new(&value()?),
             "--wrong" => arguments.reading = wrong_reading(&value()?)?,
             _ => arguments.words.push(word),
@@ -73,12 +73,12 @@ fn wrong_reading(name: &str) -> io::Result<Reading> {
 fn run(arguments: &Arguments) -> io::Result<bool> {
     let words: Vec<&str> = arguments.words.iter().map(String::as_str).collect();
     match words[..] {
-        ["check", seed, count] => check::check(&arguments.probe, seed_of(seed)?, number(count)?),
+        ["check", seed, count] => check::check(&arguments.door, seed_of(seed)?, number(count)?),
         ["program", seed, count] => {
             check_program::check_program(&arguments.pads, seed_of(seed)?, number(count)? as usize)
         }
-        ["call", seed, number] => check::one(&arguments.probe, &call(seed_of(seed)?, self::number(number)?)),
-        ["one", digits] => check::one(&arguments.probe, &request(&bytes(digits)?)?),
+        ["call", seed, number] => check::one(&arguments.door, &call(seed_of(seed)?, self::number(number)?)),
+        ["one", digits] => check::one(&arguments.door, &request(&bytes(digits)?)?),
         ["tapes", digits] => check_program::tapes(&arguments.pads, &bytes(digits)?),
         ["tapes"] => check_program::tapes(&arguments.pads, &[]),
         ["serve"] => serve::serve(arguments.reading).map(|()| true),

@@ -5,12 +5,13 @@
 
 use crate::book::{Book, SYMBOLS};
 use crate::reading::{Reading, Wrong};
-use crate::sets::{left_sets, right_sets, Set};
+use crate::sets::{left_set, right_set, Set};
 
 /// "at most 256 sets on each side"
 pub const MOST_SETS: usize = 256;
 
 /// The numbered sets of one side.
+#[derive(Clone, PartialEq, Eq, Debug)]
 pub struct Side {
     pub sets: Vec<Set>,
     /// For each numbered set and symbol, the number of the next set.
@@ -21,37 +22,47 @@ impl Side {
     pub fn number(&self, set: Set) -> usize {
         self.sets.iter().position(|numbered| *numbered == set).unwrap_or(0)
     }
+
+    /// For a wrong reading: the numbers met on the rows along a tape.
+    pub fn numbers_along(&self, tape: &[u8]) -> Vec<usize> {
+        let mut numbers = vec![0];
+        for symbol in tape {
+            numbers.push(self.rows[numbers[numbers.len() - 1]][*symbol as usize]);
+        }
+        numbers
+    }
 }
 
-/// The left side: a symbol goes behind the tape, the set is the one at its end. Nothing if there are too many.
-pub fn left(book: &Book, reading: Reading) -> Option<Side> {
-    let behind = |tape: &[u8], symbol| [tape, &[symbol]].concat();
-    let at_end = |tape: &[u8]| left_sets(book, tape, reading)[tape.len()];
-    numbered(book, at_end, behind, reading)
+/// The left side: a symbol goes behind the tape, the set is the one at its end. Nothing if there are more than `most`.
+pub fn left(book: &Book, most: usize, reading: Reading) -> Option<Side> {
+    let behind = |tape: &Vec<u8>, symbol| [&tape[..], &[symbol]].concat();
+    let at_end = |tape: &Vec<u8>| left_set(book, tape, tape.len(), reading);
+    numbered(Vec::new(), behind, at_end, most, reading)
 }
 
-/// The right side: a symbol goes in front of the tape, the set is the one at its front. Nothing if there are too many.
-pub fn right(book: &Book, reading: Reading) -> Option<Side> {
-    let front = |tape: &[u8], symbol| match reading.is(Wrong::RightRowsBehind) {
-        false => [&[symbol], tape].concat(),
-        true => [tape, &[symbol]].concat(),
+/// The right side: a symbol goes in front of the tape, the set is the one at its front. Nothing if there are more than
+/// `most`.
+pub fn right(book: &Book, most: usize, reading: Reading) -> Option<Side> {
+    let front = |tape: &Vec<u8>, symbol| match reading.is(Wrong::RightRowsBehind) {
+        false => [&[symbol], &tape[..]].concat(),
+        true => [&tape[..], &[symbol]].concat(),
     };
-    let at_front = |tape: &[u8]| right_sets(book, tape, reading)[0];
-    numbered(book, at_front, front, reading)
+    let at_front = |tape: &Vec<u8>| right_set(book, tape, 0, reading);
+    numbered(Vec::new(), front, at_front, most, reading)
 }
 
 /// A side while its sets are being numbered.
-struct Numbering<'a> {
-    set_of: &'a dyn Fn(&[u8]) -> Set,
+struct Numbering<T, S> {
+    set_of: S,
     most: usize,
     sets: Vec<Set>,
     /// For each numbered set, the tape on which it was first met.
-    tapes: Vec<Vec<u8>>,
+    tapes: Vec<T>,
 }
 
-impl Numbering<'_> {
+impl<T, S: Fn(&T) -> Set> Numbering<T, S> {
     /// The number of a tape's set: "the next set not met before gets the next number". Nothing if there is none left.
-    fn number(&mut self, tape: Vec<u8>) -> Option<usize> {
+    fn number(&mut self, tape: T) -> Option<usize> {
         let set = (self.set_of)(&tape);
         if let Some(number) = self.sets.iter().position(|met| *met == set) {
             return Some(number);
@@ -65,25 +76,22 @@ impl Numbering<'_> {
     }
 }
 
-/// "for each numbered set in turn and each symbol 0 to 15": the set's tape is tried with the symbol.
-fn numbered(
-    book: &Book,
-    set_of: impl Fn(&[u8]) -> Set,
-    put: impl Fn(&[u8], u8) -> Vec<u8>,
+/// "for each numbered set in turn and each symbol 0 to 15": the set's tape is tried with the symbol put to it. What
+/// stands for a tape is the tape itself, or anything else that `set_of` knows the set of.
+pub fn numbered<T>(
+    empty: T,
+    put: impl Fn(&T, u8) -> T,
+    set_of: impl Fn(&T) -> Set,
+    most: usize,
     reading: Reading,
 ) -> Option<Side> {
-    let most = reading.value(MOST_SETS, Wrong::LimitOf255, MOST_SETS - 1);
-    let alike = symbols_alike(book, reading);
-    let mut numbering = Numbering { set_of: &set_of, most, sets: Vec::new(), tapes: Vec::new() };
-    numbering.number(Vec::new())?;
+    let mut numbering = Numbering { set_of, most, sets: Vec::new(), tapes: Vec::new() };
+    numbering.number(empty)?;
     let mut rows = vec![None];
     while let Some(number) = next_without_row(&rows, reading) {
         let mut row = [0; SYMBOLS];
         for symbol in symbols(reading) {
-            row[symbol as usize] = match alike[symbol as usize] {
-                Some(same) => row[same as usize],
-                None => numbering.number(put(&numbering.tapes[number], symbol))?,
-            };
+            row[symbol as usize] = numbering.number(put(&numbering.tapes[number], symbol))?;
         }
         rows[number] = Some(row);
         rows.resize(numbering.sets.len(), None);
@@ -96,22 +104,6 @@ fn next_without_row(rows: &[Option<[usize; SYMBOLS]>], reading: Reading) -> Opti
         false => rows.iter().position(Option::is_none),
         true => rows.iter().rposition(Option::is_none),
     }
-}
-
-/// For each symbol, the symbol tried before it that opens the very same arcs, if there is one: no run can tell the
-/// two apart, so the set need not be worked out again.
-fn symbols_alike(book: &Book, reading: Reading) -> [Option<u8>; SYMBOLS] {
-    let opens = |symbol: u8| -> Vec<bool> { book.arcs.iter().map(|arc| arc.open(symbol, reading)).collect() };
-    let mut alike = [None; SYMBOLS];
-    let mut tried: Vec<(u8, Vec<bool>)> = Vec::new();
-    for symbol in symbols(reading) {
-        let opened = opens(symbol);
-        match tried.iter().find(|(_, before)| *before == opened) {
-            Some((same, _)) => alike[symbol as usize] = Some(*same),
-            None => tried.push((symbol, opened)),
-        }
-    }
-    alike
 }
 
 fn symbols(reading: Reading) -> Vec<u8> {

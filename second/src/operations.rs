@@ -3,15 +3,14 @@
 use std::cell::OnceCell;
 
 use crate::account::{self, WORDS_A_LINE};
+use crate::agreement::Agreement;
 use crate::answer::{Answer, Lent};
 use crate::book::{self, Book, Refusal, SYMBOLS};
 use crate::call::{Call, Operation};
-use crate::candidates::Candidates;
-use crate::numbering::{self, Side};
+use crate::numbering::Side;
 use crate::output::output;
 use crate::reading::{Reading, Wrong};
 use crate::show::show;
-use crate::taken::taken;
 use crate::workspace;
 
 /// "tape 0 to 4,096 symbols, one a byte"
@@ -22,12 +21,18 @@ const NO_COUNTS: Counts = [0; 4];
 
 /// What document 01 says of a call.
 pub fn answer(call: &Call, reading: Reading) -> Answer {
+    answer_by(call, &Agreement::of(reading))
+}
+
+/// The same; the agreement then knows how it was worked out.
+pub fn answer_by(call: &Call, agreement: &Agreement) -> Answer {
+    let reading = agreement.reading;
     let mut lent = Lent::before(call);
     let result = match call.operation {
         Operation::Check => check(call, reading),
-        Operation::Build => build(call, &mut lent, reading),
-        Operation::Rewrite => rewrite(call, &mut lent, reading),
-        Operation::Account => account(call, &mut lent, reading),
+        Operation::Build => build(call, &mut lent, agreement),
+        Operation::Rewrite => rewrite(call, &mut lent, agreement),
+        Operation::Account => account(call, &mut lent, agreement),
         Operation::Show => return shown(call, reading),
     };
     let (refusal, counts) = match result {
@@ -65,9 +70,10 @@ fn check(call: &Call, reading: Reading) -> Result<Counts, Refusal> {
 }
 
 /// "BUILD the two set counts"
-fn build(call: &Call, lent: &mut Lent, reading: Reading) -> Result<Counts, Refusal> {
+fn build(call: &Call, lent: &mut Lent, agreement: &Agreement) -> Result<Counts, Refusal> {
+    let reading = agreement.reading;
     let book = book::read(&call.book, reading)?;
-    let sides = Sides::of(&book, reading);
+    let sides = Sides::of(&book, agreement);
     admit(call, &sides, lent, reading)?;
     let (left, right) = sides.both();
     workspace::write(lent, left, right, reading);
@@ -75,15 +81,15 @@ fn build(call: &Call, lent: &mut Lent, reading: Reading) -> Result<Counts, Refus
 }
 
 /// "REWRITE the output length and the number of stretches taken"
-fn rewrite(call: &Call, lent: &mut Lent, reading: Reading) -> Result<Counts, Refusal> {
+fn rewrite(call: &Call, lent: &mut Lent, agreement: &Agreement) -> Result<Counts, Refusal> {
+    let reading = agreement.reading;
     let book = book::read(&call.book, reading)?;
-    let sides = Sides::of(&book, reading);
+    let sides = Sides::of(&book, agreement);
     admit(call, &sides, lent, reading)?;
     let untouched = lent.clone();
-    fill(call, &book, &sides, lent, reading);
-    let candidates = Candidates::of(&book, &call.tape, reading);
-    let taken = taken(&candidates);
-    let output = output(&candidates, &taken);
+    fill(call, &sides, lent);
+    let stretches = agreement.stretches(&book, &call.tape);
+    let output = output(&book, &call.tape, &stretches.taken, reading);
     let needed = output.symbols.len();
     let out = room(lent.out.len(), needed, reading) || reading.is(Wrong::OutUntested);
     let origins = room(lent.origins.len(), needed, reading) || reading.is(Wrong::OriginsUntested);
@@ -96,28 +102,28 @@ fn rewrite(call: &Call, lent: &mut Lent, reading: Reading) -> Result<Counts, Ref
     }
     write_front(&mut lent.out, &output.symbols, reading);
     write_front(&mut lent.origins, &output.origins, reading);
-    let stretches = if reading.is(Wrong::TakenCountsCandidates) { candidates.count() } else { taken.len() };
-    Ok([needed, stretches, 0, 0])
+    let count = reading.value(stretches.taken.len(), Wrong::TakenCountsCandidates, stretches.count);
+    Ok([needed, count, 0, 0])
 }
 
 /// "ACCOUNT the number of candidates"
-fn account(call: &Call, lent: &mut Lent, reading: Reading) -> Result<Counts, Refusal> {
+fn account(call: &Call, lent: &mut Lent, agreement: &Agreement) -> Result<Counts, Refusal> {
+    let reading = agreement.reading;
     let book = book::read(&call.book, reading)?;
-    let sides = Sides::of(&book, reading);
+    let sides = Sides::of(&book, agreement);
     admit(call, &sides, lent, reading)?;
     let untouched = lent.clone();
-    fill(call, &book, &sides, lent, reading);
-    let candidates = Candidates::of(&book, &call.tape, reading);
-    let taken = taken(&candidates);
-    let length = account::length(&candidates, &taken);
+    fill(call, &sides, lent);
+    let stretches = agreement.stretches(&book, &call.tape);
+    let length = account::length(&stretches, reading);
     if !room(lent.lines.len(), WORDS_A_LINE * length, reading) {
         if reading.is(Wrong::RoomWritesFront) && length <= LONGEST_TAPE {
-            write_front(&mut lent.lines, &account::lines(&candidates, &taken).concat(), reading);
+            write_front(&mut lent.lines, &account::lines(&stretches, reading).concat(), reading);
         }
         let needed = reading.value(WORDS_A_LINE * length, Wrong::RoomInLines, length);
         return Err(no_room(lent, untouched, needed, call.lengths.lines, reading));
     }
-    let lines = account::lines(&candidates, &taken);
+    let lines = account::lines(&stretches, reading);
     write_front(&mut lent.lines, &lines.concat(), reading);
     Ok([length, 0, 0, 0])
 }
@@ -138,22 +144,22 @@ fn shown(call: &Call, reading: Reading) -> Answer {
 /// The two sides of a book, worked out only if they are asked for.
 struct Sides<'a> {
     book: &'a Book,
-    reading: Reading,
+    agreement: &'a Agreement,
     left: OnceCell<Option<Side>>,
     right: OnceCell<Option<Side>>,
 }
 
-impl Sides<'_> {
-    fn of(book: &Book, reading: Reading) -> Sides<'_> {
-        Sides { book, reading, left: OnceCell::new(), right: OnceCell::new() }
+impl<'a> Sides<'a> {
+    fn of(book: &'a Book, agreement: &'a Agreement) -> Sides<'a> {
+        Sides { book, agreement, left: OnceCell::new(), right: OnceCell::new() }
     }
 
     fn left(&self) -> Option<&Side> {
-        self.left.get_or_init(|| numbering::left(self.book, self.reading)).as_ref()
+        self.left.get_or_init(|| self.agreement.left(self.book)).as_ref()
     }
 
     fn right(&self) -> Option<&Side> {
-        self.right.get_or_init(|| numbering::right(self.book, self.reading)).as_ref()
+        self.right.get_or_init(|| self.agreement.right(self.book)).as_ref()
     }
 
     /// Both sides, after replies 13 and 14 were shut out.
@@ -230,10 +236,16 @@ fn leave_workspace(reply: u8, sides: &Sides, lent: &mut Lent, reading: Reading) 
 }
 
 /// Workspace and scratch as acceptance leaves them.
-fn fill(call: &Call, book: &Book, sides: &Sides, lent: &mut Lent, reading: Reading) {
+fn fill(call: &Call, sides: &Sides, lent: &mut Lent) {
+    let reading = sides.agreement.reading;
     let (left, right) = sides.both();
     workspace::write(lent, left, right, reading);
-    workspace::write_scratch(lent, book, &call.tape, left, right, reading);
+    let sets = sides.agreement.right_sets(sides.book, &call.tape);
+    let numbers = match reading.is(Wrong::ScratchLeft) {
+        false => sets.iter().map(|set| right.number(*set)).collect(),
+        true => left.numbers_along(&call.tape),
+    };
+    workspace::write_scratch(lent, numbers, reading);
 }
 
 fn room(given: usize, needed: usize, reading: Reading) -> bool {

@@ -1,6 +1,7 @@
 //! The output and its origins.
 
-use crate::candidates::{Candidates, Stretch};
+use crate::book::Book;
+use crate::candidates::Stretch;
 use crate::reading::{Reading, Wrong};
 
 pub struct Output {
@@ -10,15 +11,15 @@ pub struct Output {
 }
 
 /// "The output replaces each taken stretch by its rule's word and keeps the rest."
-pub fn output(candidates: &Candidates, taken: &[Stretch]) -> Output {
+pub fn output(book: &Book, tape: &[u8], taken: &[Stretch], reading: Reading) -> Output {
     let mut output = Output { symbols: Vec::new(), origins: Vec::new() };
     let mut position = 0;
     for stretch in taken {
-        output.keep(candidates.tape, position, stretch.start, candidates.reading);
-        output.replace(&candidates.book.words[stretch.rule], *stretch, candidates.reading);
+        output.keep(tape, position, stretch.start, reading);
+        output.replace(&book.words[stretch.rule], *stretch, reading);
         position = position.max(stretch.end);
     }
-    output.keep(candidates.tape, position, candidates.tape.len(), candidates.reading);
+    output.keep(tape, position, tape.len(), reading);
     output
 }
 

@@ -177,6 +177,11 @@ impl Reading {
         Wrong::ALL.iter().find(|wrong| wrong.name() == name).map(|wrong| Reading::with(*wrong))
     }
 
+    /// Whether no wrong reading is put in.
+    pub fn is_true(self) -> bool {
+        self.wrong.is_none()
+    }
+
     pub fn is(self, wrong: Wrong) -> bool {
         self.wrong == Some(wrong)
     }

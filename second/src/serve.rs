@@ -1,4 +1,4 @@
-//! `second serve` and `second pads`: the reference itself in the place of the probe and of the program.
+//! `second serve` and `second pads`: the reference itself in the place of the door and of the program.
 
 use std::io::{self, BufReader, BufWriter, Read, Write};
 
@@ -7,7 +7,7 @@ use crate::operations;
 use crate::program;
 use crate::reading::Reading;
 
-/// "A request beyond these, or cut short, or of another op, gets the single byte 255 and ends the run."
+/// The one byte that answers what is no request; the run ends with it.
 const REFUSED: u8 = 255;
 
 /// Answers requests until the input ends.

@@ -1,93 +1,82 @@
 //! Sets of states: document 01, "The two automata".
 //!
-//! The sets of a tape are worked out position by position from its arcs, from the sentences of the document, and
-//! never by looking a row up.
+//! A set is worked out from its tape by following runs, each from its own beginning, to each of its ends; no set is
+//! worked out from another, and no row is looked up.
 
-use crate::book::{Book, State};
+use crate::book::Book;
+use crate::language::Language;
 use crate::reading::{Reading, Wrong};
 use crate::record::{FOCUS, LEFT, RIGHT};
+use crate::run::{self, leads_to_acceptance, States};
 
 /// "Sets of states are 64-bit numbers, state s worth 2^s."
 pub type Set = u64;
 
-fn holds(set: Set, state: usize) -> bool {
-    set >> state & 1 == 1
+/// The number of a set of states, each of which is named once.
+fn number(states: impl Iterator<Item = usize>) -> Set {
+    states.map(|state| 1 << state).sum()
 }
 
-fn states_such_that(book: &Book, wanted: impl Fn(&State) -> bool) -> Set {
-    let numbers = 0..book.states.len();
-    numbers.filter(|number| wanted(&book.states[*number])).map(|number| 1 << number).sum()
+fn states_of(book: &Book, part: u8) -> States {
+    (0..book.states.len()).filter(|state| book.states[*state].part == part).collect()
 }
 
 /// "The left set at i holds the left-part states reached at i by runs from a start state begun at any position up
-/// to i." One set for each i from 0 to n.
-pub fn left_sets(book: &Book, tape: &[u8], reading: Reading) -> Vec<Set> {
-    let counts = |part: u8| part == LEFT || part == FOCUS && reading.is(Wrong::LeftSetWithFocus);
-    let starts = states_such_that(book, |state| counts(state.part) && state.start);
-    let mut sets = vec![starts];
-    for (position, symbol) in tape.iter().enumerate() {
-        let mut reached = reading.value(starts, Wrong::LeftFromFront, 0);
-        for arc in book.arcs.iter().filter(|arc| counts(book.states[arc.to].part) && arc.open(*symbol, reading)) {
-            if holds(sets[position], arc.from) {
-                reached |= 1 << arc.to;
-            }
-        }
-        sets.push(reached);
+/// to i."
+pub fn left_set(book: &Book, tape: &[u8], i: usize, reading: Reading) -> Set {
+    let reached = reached_at(book, LEFT, tape, i, reading);
+    match reading.is(Wrong::LeftSetWithFocus) {
+        false => number(reached.into_iter()),
+        true => number(reached.into_iter().chain(reached_at(book, FOCUS, tape, i, reading))),
     }
-    sets
+}
+
+/// The states of a part that runs from a start state of it, begun at any position up to i, reach at i.
+fn reached_at(book: &Book, part: u8, tape: &[u8], i: usize, reading: Reading) -> States {
+    let languages = (0..book.words.len()).map(|rule| Language::of(book, rule, part, reading));
+    let starts: States = languages.flat_map(|language| language.starts).collect();
+    let mut reached = States::new();
+    for begin in 0..=reading.value(i, Wrong::LeftFromFront, 0) {
+        for start in &starts {
+            reached.extend(run::ends(book, *start, &tape[begin..i], reading));
+        }
+    }
+    // Only a wrong reading lets a run leave its part.
+    states_of(book, part).into_iter().filter(|state| reached.contains(state)).collect()
 }
 
 /// "The right set at i holds the right-part states from which some word beginning at i leads to acceptance, and the
 /// focus states from which a stretch i to k (k ≥ i) leads to acceptance with the right language of that rule holding
-/// at k." One set for each i from 0 to n; whether a state leads to acceptance at i is known once all are known at
-/// i + 1.
-pub fn right_sets(book: &Book, tape: &[u8], reading: Reading) -> Vec<Set> {
-    let mut sets = vec![0; tape.len() + 1];
-    for position in (0..=tape.len()).rev() {
-        let further = (position < tape.len()).then(|| (tape[position], sets[position + 1]));
-        let right = right_accepts(book, further, reading) | one_arc_before(book, RIGHT, further, reading);
-        let fits = |state: &State| state.part == FOCUS && state.accept && right_holds(book, state.rule, right, reading);
-        sets[position] = right | states_such_that(book, fits) | one_arc_before(book, FOCUS, further, reading);
-    }
-    if reading.is(Wrong::FocusEndLater) {
-        leave_out_ended_foci(book, tape, &mut sets, reading);
-    }
-    sets
+/// at k."
+pub fn right_set(book: &Book, tape: &[u8], i: usize, reading: Reading) -> Set {
+    let right = states_of(book, RIGHT).into_iter().filter(|state| right_state_fits(book, *state, tape, i, reading));
+    let focus = states_of(book, FOCUS).into_iter().filter(|state| focus_state_fits(book, *state, tape, i, reading));
+    number(right.chain(focus))
 }
 
-/// The right-part states that accept at once.
-fn right_accepts(book: &Book, further: Option<(u8, Set)>, reading: Reading) -> Set {
-    if further.is_some() && reading.is(Wrong::RightSetAnchored) {
-        return 0;
-    }
-    states_such_that(book, |state| state.part == RIGHT && state.accept)
+/// "from which some word beginning at i leads to acceptance": every end is tried.
+fn right_state_fits(book: &Book, state: usize, tape: &[u8], i: usize, reading: Reading) -> bool {
+    let first = reading.value(i, Wrong::RightSetAnchored, tape.len());
+    (first..=tape.len()).any(|end| leads_to_acceptance(book, state, &tape[i..end], reading))
 }
 
-/// For a wrong reading: only focus states with a further symbol stay.
-fn leave_out_ended_foci(book: &Book, tape: &[u8], sets: &mut [Set], reading: Reading) {
-    let foci = states_such_that(book, |state| state.part == FOCUS);
-    let whole = sets.to_vec();
-    for position in 0..=tape.len() {
-        let further = (position < tape.len()).then(|| (tape[position], whole[position + 1]));
-        sets[position] = whole[position] & !foci | one_arc_before(book, FOCUS, further, reading);
-    }
+/// "from which a stretch i to k (k ≥ i) leads to acceptance with the right language of that rule holding at k": every
+/// k is tried.
+fn focus_state_fits(book: &Book, state: usize, tape: &[u8], i: usize, reading: Reading) -> bool {
+    let first = reading.value(i, Wrong::FocusEndLater, i + 1);
+    (first..=tape.len()).any(|k| {
+        leads_to_acceptance(book, state, &tape[i..k], reading)
+            && right_language_holds(book, book.states[state].rule, tape, k, reading)
+    })
 }
 
-/// The states of a part from which the symbol at hand leads into the set that stands after it.
-fn one_arc_before(book: &Book, part: u8, further: Option<(u8, Set)>, reading: Reading) -> Set {
-    let Some((symbol, after)) = further else { return 0 };
-    let mut before = 0;
-    for arc in &book.arcs {
-        if book.states[arc.from].part == part && arc.open(symbol, reading) && holds(after, arc.to) {
-            before |= 1 << arc.from;
-        }
+fn right_language_holds(book: &Book, rule: usize, tape: &[u8], k: usize, reading: Reading) -> bool {
+    let holds = |rule: usize| Language::of(book, rule, RIGHT, reading).holds_beginning_at(tape, k);
+    if reading.is(Wrong::FocusWithoutRight) {
+        return true;
     }
-    before
-}
-
-/// Whether the right language of a rule holds where these right-part states lead to acceptance.
-fn right_holds(book: &Book, rule: usize, right: Set, reading: Reading) -> bool {
-    let of_rule = |state: &State| state.rule == rule || reading.is(Wrong::OtherRight);
-    let starts = states_such_that(book, |state| state.part == RIGHT && state.start && of_rule(state));
-    right & starts != 0 || reading.is(Wrong::FocusWithoutRight)
+    match reading.is(Wrong::OtherRight) {
+        false => holds(rule),
+        true => (0..book.words.len()).any(holds),
+    }
 }

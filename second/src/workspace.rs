@@ -1,10 +1,9 @@
 //! The workspace and the scratch as a call leaves them.
 
 use crate::answer::Lent;
-use crate::book::{Book, SYMBOLS};
+use crate::book::SYMBOLS;
 use crate::numbering::{Side, MOST_SETS};
 use crate::reading::{Reading, Wrong};
-use crate::sets::{left_sets, right_sets};
 
 /// "The workspace is 8,192 bytes (left rows, then right rows: 256 rows of 16 next numbers a side)"
 pub const ROW_BYTES: usize = 2 * MOST_SETS * SYMBOLS;
@@ -63,11 +62,7 @@ pub fn write_side(lent: &mut Lent, first: usize, side: &Side) {
 }
 
 /// "Scratch byte i, for i from 0 to n, is the number of the right set at i."
-pub fn write_scratch(lent: &mut Lent, book: &Book, tape: &[u8], left: &Side, right: &Side, reading: Reading) {
-    let mut numbers: Vec<usize> = match reading.is(Wrong::ScratchLeft) {
-        false => right_sets(book, tape, reading).iter().map(|set| right.number(*set)).collect(),
-        true => left_sets(book, tape, reading).iter().map(|set| left.number(*set)).collect(),
-    };
+pub fn write_scratch(lent: &mut Lent, mut numbers: Vec<usize>, reading: Reading) {
     if reading.is(Wrong::ScratchShifted) {
         numbers.rotate_left(1);
     }

@@ -47,7 +47,7 @@ fn bad_requests_are_refused() {
     assert!([0, 6, 255].iter().all(|operation| refused(&[&[*operation], &good[1..]].concat())), "another operation");
     for length in 0..8 {
         let mut long = good.clone();
-        long[2 + 4 * length..][..4].copy_from_slice(&65_537u32.to_le_bytes());
+        long[2 + 4 * length..][..4].copy_from_slice(&131_073u32.to_le_bytes());
         assert!(refused(&long), "length {length}");
     }
     assert!(matches!(Call::read(&mut &[][..]), Ok(Request::Ended)));
@@ -55,35 +55,35 @@ fn bad_requests_are_refused() {
 
 #[test]
 fn check_agrees_with_itself() {
-    let output = second(&["check", "5", "600", "--probe", &format!("{SECOND} serve")]);
+    let output = second(&["check", "5", "600", "--door", &format!("{SECOND} serve")]);
     assert!(output.status.success(), "{}", printed(&output));
     assert_eq!(last_line(&output), "600 passed, 0 failed");
 }
 
 #[test]
 fn check_finds_and_repeats_a_small_case() {
-    let probe = format!("{SECOND} serve --wrong longest-focus-first");
-    let output = second(&["check", "5", "600", "--probe", &probe]);
+    let door = format!("{SECOND} serve --wrong longest-focus-first");
+    let output = second(&["check", "5", "600", "--door", &door]);
     assert!(!output.status.success());
     assert!(last_line(&output).ends_with(" passed, 1 failed"));
     let text = printed(&output);
     let command = text.lines().find(|line| line.starts_with("repeat it with: ")).expect("a command");
     let request = command.split(' ').next_back().expect("the request");
     assert!(request.len() < 250, "a case of {} digits is not small: {text}", request.len());
-    let again = second(&["one", request, "--probe", &probe]);
+    let again = second(&["one", request, "--door", &door]);
     assert!(!again.status.success());
     assert!(printed(&again).contains("differs: "));
-    assert!(second(&["one", request, "--probe", &format!("{SECOND} serve")]).status.success());
+    assert!(second(&["one", request, "--door", &format!("{SECOND} serve")]).status.success());
 }
 
 #[test]
-fn check_notices_a_probe_that_stops() {
-    for probe in ["true", "false", "head -c 100000"] {
-        let output = second(&["check", "5", "50", "--probe", probe]);
-        assert!(!output.status.success(), "{probe}");
-        assert!(last_line(&output).ends_with(" passed, 1 failed"), "{probe}: {}", printed(&output));
+fn check_notices_a_door_that_stops() {
+    for door in ["true", "false", "head -c 100000"] {
+        let output = second(&["check", "5", "50", "--door", door]);
+        assert!(!output.status.success(), "{door}");
+        assert!(last_line(&output).ends_with(" passed, 1 failed"), "{door}: {}", printed(&output));
     }
-    assert!(!second(&["check", "5", "50", "--probe", "no-such-command"]).status.success());
+    assert!(!second(&["check", "5", "50", "--door", "no-such-command"]).status.success());
 }
 
 #[test]

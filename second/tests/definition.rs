@@ -1,16 +1,19 @@
-//! The reference against document 01 read as literally as can be: every run followed on its own, nothing remembered.
-//! Slow, so small tapes alone.
+//! The reference, and the fast stand-in, against document 01 read as literally as can be: every run followed on its
+//! own, from state to state. Slow, so small tapes alone.
 
 use second::answer::Answer;
 use second::book::{self, Book};
 use second::call::{Call, Lengths, Operation};
+use second::candidates::Stretch;
 use second::chance::Chance;
 use second::generate::alphabet::Alphabet;
 use second::generate::{rules, tapes};
 use second::operations::answer;
 use second::reading::Reading;
 use second::record::{FOCUS, LEFT, RIGHT};
-use second::{draft, sets};
+use second::sets::{left_set, right_set};
+use second::stretches::Stretches;
+use second::{draft, fast};
 
 const BOOKS: u64 = 1500;
 const LONGEST: usize = 7;
@@ -99,7 +102,7 @@ fn sum(states: impl Iterator<Item = usize>) -> u64 {
     states.map(|state| 1u64 << state).sum()
 }
 
-fn left_set(book: &Book, tape: &[u8], i: usize) -> u64 {
+fn literal_left_set(book: &Book, tape: &[u8], i: usize) -> u64 {
     let starts: Vec<usize> = states(book, LEFT).into_iter().filter(|state| book.states[*state].start).collect();
     let reached = |wanted: usize| {
         (0..=i).any(|begin| starts.iter().any(|start| leads(book, *start, &tape[begin..i], &|state| state == wanted)))
@@ -107,7 +110,7 @@ fn left_set(book: &Book, tape: &[u8], i: usize) -> u64 {
     sum(states(book, LEFT).into_iter().filter(|state| reached(*state)))
 }
 
-fn right_set(book: &Book, tape: &[u8], i: usize) -> u64 {
+fn literal_right_set(book: &Book, tape: &[u8], i: usize) -> u64 {
     let accepts = |state: usize, k: usize| leads(book, state, &tape[i..k], &|state| book.states[state].accept);
     let right = states(book, RIGHT).into_iter().filter(|state| (i..=tape.len()).any(|k| accepts(*state, k)));
     let rule = |state: usize| book.states[state].rule;
@@ -148,6 +151,14 @@ fn candidates_taken_output_and_account() {
         let candidates = candidates(&book, &tape);
         let taken = taken(&candidates);
         let output = output(&book, &tape, &taken);
+        for stretches in [Stretches::plainly(&book, &tape, Reading::TRUE), Stretches::fast(&book, &tape)] {
+            let triples =
+                |stretches: &[Stretch]| -> Vec<_> { stretches.iter().map(|s| (s.start, s.end, s.rule)).collect() };
+            let mut listed = triples(&stretches.listed);
+            listed.sort_unstable();
+            assert_eq!((stretches.count, &listed), (candidates.len(), &candidates), "book {number}");
+            assert_eq!(triples(&stretches.taken), taken, "book {number}");
+        }
         let lines: Vec<u16> = candidates.iter().flat_map(|candidate| line(*candidate, &taken)).collect();
         let rewritten = answered(Operation::Rewrite, &bytes, &tape);
         if has_too_many_sets(&rewritten) {
@@ -170,10 +181,13 @@ fn sets_rows_and_scratch() {
     for number in 0..BOOKS {
         let (bytes, tape) = drawn(number);
         let book = book::read(&bytes, Reading::TRUE).expect("a valid book");
-        let left: Vec<u64> = (0..=tape.len()).map(|i| left_set(&book, &tape, i)).collect();
-        let right: Vec<u64> = (0..=tape.len()).map(|i| right_set(&book, &tape, i)).collect();
-        assert_eq!(sets::left_sets(&book, &tape, Reading::TRUE), left, "book {number}");
-        assert_eq!(sets::right_sets(&book, &tape, Reading::TRUE), right, "book {number}");
+        let left: Vec<u64> = (0..=tape.len()).map(|i| literal_left_set(&book, &tape, i)).collect();
+        let right: Vec<u64> = (0..=tape.len()).map(|i| literal_right_set(&book, &tape, i)).collect();
+        for i in 0..=tape.len() {
+            assert_eq!(left_set(&book, &tape, i, Reading::TRUE), left[i], "book {number}");
+            assert_eq!(right_set(&book, &tape, i, Reading::TRUE), right[i], "book {number}");
+        }
+        assert_eq!(fast::sets::right_sets(&book, &tape), right, "book {number}");
         let answer = answered(Operation::Rewrite, &bytes, &tape);
         if has_too_many_sets(&answer) {
             continue;

@@ -1,12 +1,13 @@
 //! Sizes at every limit and one past it.
 
+use second::agreement::Agreement;
 use second::call::{Call, Lengths, Operation};
 use second::chance::Chance;
 use second::draft::{self, Part, Rule};
 use second::generate::calls::call;
 use second::generate::full;
 use second::generate::limits::LIMITS;
-use second::operations::answer;
+use second::operations::{answer, answer_by};
 use second::reading::Reading;
 use second::record::{self, ARC, RULE, STATE};
 use second::tally::{Tally, WHOLE_RUN};
@@ -100,10 +101,23 @@ fn limits_are_met_on_both_sides() {
     }
 }
 
+/// A whole run meets every reply of every operation. Of the calls that come to the sets, nine in ten are worked out
+/// plainly; the others all are.
 #[test]
-fn a_whole_run_meets_every_reply_of_every_operation() {
+fn a_whole_run_meets_every_reply_and_is_plain() {
     let mut tally = Tally::default();
-    (0..WHOLE_RUN).for_each(|number| tally.add(&answer(&call(2, number), Reading::TRUE)));
-    println!("{}", tally.table());
+    let (mut with_sets, mut plain) = (0, 0);
+    for number in 0..WHOLE_RUN {
+        let agreement = Agreement::of(Reading::TRUE);
+        let answer = answer_by(&call(2, number), &agreement);
+        tally.add(&answer);
+        let has_sets =
+            !matches!(answer.operation, Operation::Check | Operation::Show) && !(1..=12).contains(&answer.reply);
+        assert!(has_sets || agreement.is_plain(), "call {number}");
+        with_sets += u64::from(has_sets);
+        plain += u64::from(has_sets && agreement.is_plain());
+    }
+    println!("{}{plain} of {with_sets} calls with sets are plain", tally.table());
     assert_eq!(tally.never_met(), Vec::<String>::new());
+    assert!(10 * plain >= 9 * with_sets, "{plain} of {with_sets}");
 }

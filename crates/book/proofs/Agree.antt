@@ -1,20 +1,20 @@
--- The scan of the code and the book of the definition: they agree on all that the tests of a record look at.
-use Prim.Native.Nat.{ℕ, zero, suc, _+_, _≤_, _<_}
+-- The scan of the code and the book of the definition: they agree on all that the tests of a record look at. Assumes nothing.
+use Prim.Native.Nat.{ℕ, _+_, _≤_, _<_}
 use mathlib.Core.Path.{_≡_, refl, ap, sym, _∙_}
-use mathlib.Core.List.{List, [], _∷_, _++_, map, map-append}
-use mathlib.Core.Bool.{Bool, true, false, not, cond}
-use lib.ListN.{length, take, set, length-append, length-set}
+use mathlib.Core.List.{List, map, map-append}
+use mathlib.Core.Bool.{not}
+use lib.ListN.{length, take, length-append, length-set}
 use lib.Seq.{take-suc-set, getD-take}
 use lib.Dec.{leb, ltb, eqb}
 use borrow.Author.Tests.{not-false}
 use native.Mathlib.Numerals.{add-one}
 use native.Mathlib.Omega.{arith}
 use Rattle.book.specs.declared.Scan.{Scan}
-use Rattle.book.specs.Format.{byte, recordSize, given, arcReply, byKind, kindReply, recordReply}
+use Rattle.book.specs.Format.{symbolCount, mostStates, mostArcs, byte, recordSize, given, arcReply, kindReply, recordReply}
 use Rattle.book.specs.Scanning.{ruleMore, stateMore, arcMore, recordMore}
 use Rattle.book.specs.Reading.{State, Arc, Book, partOf, scanOf, wordAt, stateAt, arcAt, withRule, withState, withArc, withRecord}
 use Rattle.book.proofs.Laws.{given-below}
-use Rattle.book.proofs.Passed.{test-same, kind-rel, rule-room, state-room, arc-room}
+use Rattle.book.proofs.Passed.{test-same, kind-rel, state-room}
 
 pub record Agree (g : Scan) (b : Book) : Type 0 where
   pub rules : g .rules ≡ length (b .words)
@@ -22,8 +22,8 @@ pub record Agree (g : Scan) (b : Book) : Type 0 where
   pub arcs : g .arcs ≡ length (b .arcs)
   pub first : g .first ≡ b .first
   pub parts : take (g .states) (g .parts) ≡ map partOf (b .states)
-  pub room : g .states ≤ 64
-  pub long : length (g .parts) ≡ 64
+  pub room : g .states ≤ mostStates
+  pub long : length (g .parts) ≡ mostStates
 
 -- the scan with other parts
 abbrev with-parts : Scan → List ℕ → Scan
@@ -34,8 +34,8 @@ module _ (g : Scan) (ps : List ℕ) (same : (k : ℕ) → k < g .states → byte
   unfolding arcReply
   arc-same from low high to =
       test-same (eqb (g .rules) 0) 4 _ _ (λ _.
-      test-same (leb 512 (g .arcs)) 3 _ _ (λ _.
-      test-same (leb 16 high) 5 _ _ (λ _.
+      test-same (leb mostArcs (g .arcs)) 3 _ _ (λ _.
+      test-same (leb symbolCount high) 5 _ _ (λ _.
       test-same (ltb high low) 5 _ _ (λ _.
       test-same (not (given (g .first) (g .states) from)) 6 _ _ (λ p.
       test-same (not (given (g .first) (g .states) to)) 6 _ _ (λ q.
@@ -63,9 +63,17 @@ reply-same g b a s at =
 -- and they agree again with that record
 rule-agree : (g : Scan) (b : Book) (w : List ℕ) → Agree g b → Agree (ruleMore g) (withRule w b)
 rule-agree g b w a =
-    record { rules = rw length-append (omega (arith, a .rules)); states = a .states; arcs = a .arcs; first = a .states; parts = a .parts; room = a .room; long = a .long }
+    record {
+      rules = rw length-append (omega (arith, a .rules));
+      states = a .states;
+      arcs = a .arcs;
+      first = a .states;
+      parts = a .parts;
+      room = a .room;
+      long = a .long;
+    }
 
-state-agree : (g : Scan) (b : Book) (st : State) → g .states < 64 → Agree g b → Agree (stateMore (st .part) g) (withState st b)
+state-agree : (g : Scan) (b : Book) (st : State) → g .states < mostStates → Agree g b → Agree (stateMore (st .part) g) (withState st b)
 state-agree g b st h a =
     record {
       rules = a .rules;
@@ -79,7 +87,15 @@ state-agree g b st h a =
 
 arc-agree : (g : Scan) (b : Book) (x : Arc) → Agree g b → Agree (arcMore g) (withArc x b)
 arc-agree g b x a =
-    record { rules = a .rules; states = a .states; arcs = rw length-append (omega (arith, a .arcs)); first = a .first; parts = a .parts; room = a .room; long = a .long }
+    record {
+      rules = a .rules;
+      states = a .states;
+      arcs = rw length-append (omega (arith, a .arcs));
+      first = a .first;
+      parts = a .parts;
+      room = a .room;
+      long = a .long;
+    }
 
 pub agree-more : (g : Scan) (b : Book) (s : List ℕ) (at : ℕ) → kindReply s at g ≡ 0 → Agree g b → Agree (recordMore s at g) (withRecord s at b)
 unfolding recordMore withRecord

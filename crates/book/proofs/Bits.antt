@@ -1,6 +1,5 @@
 -- The laws of sets as numbers. Assumes nothing.
 use mathlib.Core.Path.{_≡_, refl, sym, ap, ap₂, _∙_}
-use mathlib.Core.Logic.{_⊎_}
 use Prim.Native.Nat.{ℕ, zero, suc, _+_, _-_, _*_, _/_, _%_, _^_, _≤_, _<_, min, max, suc-le-suc}
 use native.Mathlib.Nat.{div-one, div-div-eq-div-mul, pow-succ', not-suc-le-zero, mod-lt, zero-lt-suc, le-of-suc-le-suc}
 use native.Mathlib.Nat.{lt-of-lt-of-le, div-eq-of-lt, one-mul}

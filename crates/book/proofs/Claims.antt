@@ -1,18 +1,19 @@
 -- What holds of CHECK beside its contract, and what the layers above may rely on, each stated over `checkDef` and `bookOf`. The walk over
 -- the records of an accepted book, each with its place and content, is `Walk` of Walk.antt; the record of each state is `Found` of
--- Placing.antt. Assumes nothing.
-use Prim.Native.Nat.{ℕ, zero, suc, _+_, _≤_, _<_}
-use mathlib.Core.Path.{_≡_, refl, sym, subst, _∙_}
+-- Placing.antt. That the contract determines the answer is `one-result` of One.antt. Assumes nothing.
+use Prim.Native.Nat.{ℕ, zero, suc, _<_}
+use mathlib.Core.Path.{_≡_, sym, subst, _∙_}
 use mathlib.Core.List.{List}
-use mathlib.Core.Bool.{Bool, true, false}
 use lib.ListN.{length}
 use lib.Dec.{eqb}
+use lib.Seq.{ext-getD}
 use borrow.Author.Tests.{eqb-false}
 use native.Mathlib.Omega.{arith}
-use Rattle.book.specs.declared.Checked.{Checked}
-use Rattle.book.specs.Format.{byte, endReply, kindReply}
-use Rattle.book.specs.Reading.{Book, empty, scanOf, accepted, readFrom, readBook, answer, checkDef, bookOf}
+use Rattle.book.specs.declared.outline.Masks.{Masks}
+use Rattle.book.specs.Format.{mostRules, endKind, byte, endReply, kindReply}
+use Rattle.book.specs.Reading.{State, Book, empty, scanOf, accepted, readFrom, readBook, answer, checkDef, bookOf}
 use Rattle.book.specs.Language.{stateOf}
+use Rattle.book.specs.Outline.{Masked}
 use Rattle.book.specs.Sound.{Sound}
 use Rattle.book.proofs.Passed.{test-passed, passed}
 use Rattle.book.proofs.Accepted.{Next, last, more, next, never, is-accepted, accepted-answer}
@@ -20,19 +21,24 @@ use Rattle.book.proofs.Sound.{accepted-sound}
 use Rattle.book.proofs.Walk.{walk-start}
 use Rattle.book.proofs.Placing.{Found, found}
 
--- two answers that check's contract allows are equal
-pub one-result : (s : List ℕ) (r q : Checked) → r ≡ checkDef s → q ≡ checkDef s → r ≡ q
-one-result s r q e f = e ∙ sym f
+-- two masks of one part and flag are equal
+pub one-mask : (part flag : ℕ) (states : List State) (m n : Masks) → Masked part flag states m → Masked part flag states n → m ≡ n
+one-mask part flag states m n p q =
+    let short : (k : ℕ) → k < length (m .each) → k < mostRules = λ k h. omega (arith, p .long) in
+    let each = ext-getD 0 (m .each) (n .each) (p .long ∙ sym (q .long)) (λ k h. p .rules k (short k h) ∙ sym (q .rules k (short k h))) in
+    let all = p .whole ∙ sym (q .whole) in
+    λ i. record { each = each i; all = all i }
 
 -- the end record passes its test after a rule alone
-end-rule : (s : List ℕ) (at : ℕ) (b : Book) → kindReply s at (scanOf b) ≡ 0 → byte s at ≡ 4 → 0 < length (b .words)
+end-rule : (s : List ℕ) (at : ℕ) (b : Book) → kindReply s at (scanOf b) ≡ 0 → byte s at ≡ endKind → 0 < length (b .words)
 unfolding kindReply endReply
 end-rule s at b e k =
     let z = eqb-false (length (b .words)) 0 (test-passed (eqb (length (b .words)) 0) 3 0 (rw k at e) .0) in
     omega (arith, z)
 
 module _ (s : List ℕ) where
-  some-next : (n at : ℕ) (b B : Book) → Next n s at b B → ((at′ : ℕ) (b′ : Book) → readFrom n s at′ b′ ≡ accepted B → 0 < length (B .words)) → 0 < length (B .words)
+  some-next : (n at : ℕ) (b B : Book) → Next n s at b B → ((at′ : ℕ) (b′ : Book) → readFrom n s at′ b′ ≡ accepted B → 0 < length (B .words))
+      → 0 < length (B .words)
   some-next n at b B (last e k l q) ih = subst (λ (x : Book). 0 < length (x .words)) q (end-rule s at b (passed s at (scanOf b) e .kind) k)
   some-next n at b B (more e k h) ih = ih _ _ h
 

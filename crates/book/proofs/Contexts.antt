@@ -1,12 +1,12 @@
 -- The tests of a left and of a right context are the paper's u ∈ Σ*λ and w ∈ ρΣ*. Assumes nothing.
 use Prim.Native.Nat.{ℕ}
-use mathlib.Core.List.{List, [], _∷_, _++_}
+use mathlib.Core.List.{List, _++_}
 use mathlib.Core.Bool.{Bool}
 use mathlib.Core.Path.{_≡_, subst, sym}
 use mathlib.Core.Logic.{_↔_}
 use lib.Dec.{T}
 use Rattle.book.specs.Language.{someEnd, someFront}
-use Rattle.book.proofs.Tests.{Cut, cut-of, cut-eq, end-in, end-out, front-in, front-out}
+use Rattle.book.proofs.Tests.{cut-of, cut-eq, end-in, end-out, front-in, front-out}
 
 pub some-end : (f : List ℕ → Bool) (u : List ℕ) → T (someEnd f u) ↔ ((x y : List ℕ) × (u ≡ x ++ y) × T (f y))
 some-end f u = (

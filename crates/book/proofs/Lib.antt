@@ -1,13 +1,20 @@
+-- Laws of sets as numbers, of tests, contexts and padded lists.
 pub mod Bits
 pub mod Tests
 pub mod Contexts
+pub mod Arcs
+pub mod Pad
+-- Laws of a record and of the loop of `check`.
 pub mod Laws
 pub mod Passed
 pub mod Agree
 pub mod Progress
+-- Laws of an accepted book: that it is sound, the walk over its records, the outline that is taken of it.
 pub mod Accepted
 pub mod Sound
 pub mod Walk
 pub mod Placing
 pub mod Masking
+-- What the crates above may rely on.
 pub mod Claims
+pub mod One

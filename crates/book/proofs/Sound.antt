@@ -1,50 +1,54 @@
--- Every accepted book is sound.
+-- Every accepted book is sound: by induction over its records, each of which passed its tests. Assumes nothing.
 use Prim.Native.Nat.{ℕ, zero, suc, _+_, _-_, _≤_, _<_, min}
 use native.Mathlib.Decide.{decLt}
-use mathlib.Core.Path.{_≡_, refl, ap, sym, subst, _∙_}
+use mathlib.Core.Path.{_≡_, sym, subst, _∙_}
 use mathlib.Core.List.{List, [], _∷_, _++_, map, List·Memᴰ, List·Memᴰ·head, List·Memᴰ·tail}
-use mathlib.Core.Bool.{Bool, true, false, not, _&&_, cond, false≢true}
-use native.Mathlib.Numerals.{add-one}
+use mathlib.Core.Bool.{true, not, _&&_, false≢true}
 use native.Mathlib.Omega.{arith}
 use lib.ListN.{length, getD, drop, length-take, length-append, List·getD-append, List·getD-map}
 use lib.Seq.{getD-take, getD-drop}
 use lib.Dec.{leb, ltb, eqb}
-use borrow.Author.Tests.{ltb-true, ltb-false, leb-true, leb-false, eqb-true, eqb-false, not-false, lt-ltb}
+use borrow.Author.Tests.{ltb-true, ltb-false, leb-false, eqb-true, eqb-false, not-false, lt-ltb}
 use Rattle.book.specs.Language.{noState, stateOf}
-use Rattle.book.specs.Format.{symbolCount, byte, symbolFits, symbolsFit, given, ruleReply, stateReply, arcReply, kindReply, recordReply}
-use Rattle.book.specs.Reading.{State, Arc, Book, empty, partOf, scanOf, wordAt, stateAt, arcAt, withRule, withState, withArc, withRecord, readBook, accepted}
+use Rattle.book.specs.Format.{symbolCount, mostRules, mostStates, mostArcs, longestWord, ruleKind, stateKind, arcKind, focusPart, rightPart}
+use Rattle.book.specs.Format.{bothFlags, lengthAt, symbolsAt, partAt, flagsAt, fromAt, lowAt, highAt, toAt, byte, symbolFits, symbolsFit}
+use Rattle.book.specs.Format.{ruleReply, stateReply, given, arcReply, kindReply, recordReply}
+use Rattle.book.specs.Reading.{State, Arc, Book, empty, partOf, scanOf, wordAt, stateAt, arcAt, withRule, withState, withArc, withRecord}
+use Rattle.book.specs.Reading.{readBook, accepted}
 use Rattle.book.specs.Sound.{noArc, arcOf, WordFits, StateFits, ArcFits, Sound}
 use Rattle.book.proofs.Passed.{test-passed, kind-rel, passed}
 use Rattle.book.proofs.Laws.{and-left, and-right, given-below, given-from}
 use Rattle.book.proofs.Accepted.{accepted-ind}
 
 -- a list with one element more
-pub at-snoc : {A : Type 0} (P : ℕ → A → Type 0) (l : List A) (x d : A) → ((k : ℕ) → k < length l → P k (getD l k d)) → P (length l) x → (k : ℕ) → k < length (l ++ (x ∷ [])) → P k (getD (l ++ (x ∷ [])) k d)
+pub at-snoc : {A : Type 0} (P : ℕ → A → Type 0) (l : List A) (x d : A) → ((k : ℕ) → k < length l → P k (getD l k d)) → P (length l) x
+    → (k : ℕ) → k < length (l ++ (x ∷ [])) → P k (getD (l ++ (x ∷ [])) k d)
 at-snoc P [] x d f p zero h = p
 at-snoc P [] x d f p (suc k) h = let w : ⊥ = omega arith in absurd w
 at-snoc P (a ∷ l) x d f p zero h = f zero (omega arith)
 at-snoc P (a ∷ l) x d f p (suc k) h = at-snoc (λ j. P (suc j)) l x d (λ j g. f (suc j) (omega arith)) p k (omega arith)
 
 -- what a passed record says of its fields
-pub state-fits : (part flags rules states : ℕ) (r p : ℕ) → stateReply part flags rules states ≡ 0 → (states < 64) × (0 < rules) × StateFits (record { rule = r; part = part; flags = flags; place = p })
+pub state-fits : (part flags rules states : ℕ) (r p : ℕ) → stateReply part flags rules states ≡ 0
+    → (states < mostStates) × (0 < rules) × StateFits (record { rule = r; part = part; flags = flags; place = p })
 unfolding stateReply
 state-fits part flags rules states r p e =
     let a = test-passed (eqb rules 0) 3 _ e in
-    let b = test-passed (leb 64 states) 2 _ (a .1) in
-    let c = test-passed (ltb 2 part) 4 _ (b .1) in
-    let d = test-passed (ltb 3 flags) 4 _ (c .1) in
-    let f = test-passed (eqb part 1 && eqb flags 3) 6 _ (d .1) in
+    let b = test-passed (leb mostStates states) 2 _ (a .1) in
+    let c = test-passed (ltb rightPart part) 4 _ (b .1) in
+    let d = test-passed (ltb bothFlags flags) 4 _ (c .1) in
+    let f = test-passed (eqb part focusPart && eqb flags bothFlags) 6 _ (d .1) in
     let z = eqb-false rules 0 (a .0) in (
-      leb-false 64 states (b .0),
+      leb-false mostStates states (b .0),
       omega (arith, z),
       record {
-        part = ltb-false 2 part (c .0);
-        flags = ltb-false 3 flags (d .0);
+        part = ltb-false rightPart part (c .0);
+        flags = ltb-false bothFlags flags (d .0);
         focus = λ u v. false≢true (sym (f .0) ∙ both u v);
       },
     )
   where
-    both : part ≡ 1 → flags ≡ 3 → (eqb part 1 && eqb flags 3) ≡ true
+    both : part ≡ focusPart → flags ≡ bothFlags → (eqb part focusPart && eqb flags bothFlags) ≡ true
     both p q = rw (p, q)
 
 -- each symbol of a word that fits
@@ -61,28 +65,30 @@ symbol-low : (n i x : ℕ) → symbolFits n i x ≡ true → i < n → x < symbo
 unfolding symbolFits
 symbol-low n i x e h = ltb-true x symbolCount (rw (lt-ltb i n h) at e)
 
-word-fits : (s : List ℕ) (at rules : ℕ) → ruleReply s at rules ≡ 0 → (rules < 16) × WordFits (wordAt s at)
+word-fits : (s : List ℕ) (at rules : ℕ) → ruleReply s at rules ≡ 0 → (rules < mostRules) × WordFits (wordAt s at)
 unfolding ruleReply
 word-fits s at rules e =
-    let a = test-passed (leb 16 rules) 2 _ e in
-    let b = test-passed (ltb 8 (byte s (at + 1))) 4 _ (a .1) in
-    let c = test-passed (not (symbolsFit s (at + 2) (byte s (at + 1)) 8)) 4 _ (b .1) in
-    let l = ltb-false 8 (byte s (at + 1)) (b .0) in (
-      leb-false 16 rules (a .0),
+    let a = test-passed (leb mostRules rules) 2 _ e in
+    let b = test-passed (ltb longestWord (byte s (at + lengthAt))) 4 _ (a .1) in
+    let c = test-passed (not (symbolsFit s (at + symbolsAt) (byte s (at + lengthAt)) longestWord)) 4 _ (b .1) in
+    let l = ltb-false longestWord (byte s (at + lengthAt)) (b .0) in (
+      leb-false mostRules rules (a .0),
       record {
         short = rw length-take (omega arith);
         symbols = λ i h. one i (rw length-take at h) l (not-false _ (c .0));
       },
     )
   where
-    one : (i : ℕ) → i < min (byte s (at + 1)) (length (drop (at + 2) s)) → byte s (at + 1) ≤ 8 → symbolsFit s (at + 2) (byte s (at + 1)) 8 ≡ true → getD (wordAt s at) i 0 < symbolCount
+    one : (i : ℕ) → i < min (byte s (at + lengthAt)) (length (drop (at + symbolsAt) s)) → byte s (at + lengthAt) ≤ longestWord
+        → symbolsFit s (at + symbolsAt) (byte s (at + lengthAt)) longestWord ≡ true → getD (wordAt s at) i 0 < symbolCount
     one i h l f =
-        let k : i < byte s (at + 1) = omega arith in
-        rw (getD-take (byte s (at + 1)) (drop (at + 2) s) i 0 k, getD-drop) (symbol-low _ i _ (symbol-of s (at + 2) (byte s (at + 1)) 8 f i (omega arith)) k)
+        let k : i < byte s (at + lengthAt) = omega arith in
+        rw (getD-take (byte s (at + lengthAt)) (drop (at + symbolsAt) s) i 0 k, getD-drop)
+        (symbol-low _ i _ (symbol-of s (at + symbolsAt) (byte s (at + lengthAt)) longestWord f i (omega arith)) k)
 
 -- an arc that passed: the two states in the latest rule, of one part
 pub record ArcPassed (b : Book) (x : Arc) : Type 0 where
-  pub room : length (b .arcs) < 512
+  pub room : length (b .arcs) < mostArcs
   pub order : x .low ≤ x .high
   pub top : x .high < symbolCount
   pub from : (b .first ≤ x .from) × (x .from < length (b .states))
@@ -97,7 +103,7 @@ unfolding arcReply
 arc-passed b x e =
     let g = scanOf b in
     let p = test-passed (eqb (g .rules) 0) 3 _ e in
-    let q = test-passed (leb 512 (g .arcs)) 2 _ (p .1) in
+    let q = test-passed (leb mostArcs (g .arcs)) 2 _ (p .1) in
     let r = test-passed (leb symbolCount (x .high)) 4 _ (q .1) in
     let s = test-passed (ltb (x .high) (x .low)) 4 _ (r .1) in
     let t = test-passed (not (given (g .first) (g .states) (x .from))) 5 _ (s .1) in
@@ -106,7 +112,7 @@ arc-passed b x e =
     let f = not-false _ (t .0) in
     let h = not-false _ (u .0) in
     record {
-      room = leb-false 512 (g .arcs) (q .0);
+      room = leb-false mostArcs (g .arcs) (q .0);
       order = ltb-false (x .high) (x .low) (s .0);
       top = leb-false symbolCount (x .high) (r .0);
       from = (given-from _ _ _ f, given-below _ _ _ f);
@@ -115,7 +121,7 @@ arc-passed b x e =
     }
 
 -- each kind of record keeps a sound book sound
-rule-sound : (b : Book) (w : List ℕ) → length (b .words) < 16 → WordFits w → Sound b → Sound (withRule w b)
+rule-sound : (b : Book) (w : List ℕ) → length (b .words) < mostRules → WordFits w → Sound b → Sound (withRule w b)
 rule-sound b w h f o =
     record {
       rules = rw length-append (omega arith);
@@ -148,7 +154,7 @@ arc-sound b x p o =
     same : stateOf b (x .from) .rule ≡ stateOf b (x .to) .rule
     same = omega (arith, o .latest (x .from) (p .from .0) (p .from .1), o .latest (x .to) (p .to .0) (p .to .1))
 
-state-sound : (b : Book) (st : State) → length (b .states) < 64 → StateFits st → st .rule + 1 ≡ length (b .words) → Sound b → Sound (withState st b)
+state-sound : (b : Book) (st : State) → length (b .states) < mostStates → StateFits st → st .rule + 1 ≡ length (b .words) → Sound b → Sound (withState st b)
 state-sound b st h p e o =
     record {
       rules = o .rules;
@@ -176,15 +182,17 @@ state-sound b st h p e o =
           rule = rw (old (a .from) (q .from), old (a .to) (q .to)) (q .rule);
         }
 
-pub kind-rule : (s : List ℕ) (at : ℕ) (b : Book) → kindReply s at (scanOf b) ≡ 0 → byte s at ≡ 1 → ruleReply s at (length (b .words)) ≡ 0
+pub kind-rule : (s : List ℕ) (at : ℕ) (b : Book) → kindReply s at (scanOf b) ≡ 0 → byte s at ≡ ruleKind → ruleReply s at (length (b .words)) ≡ 0
 unfolding kindReply
 kind-rule s at b e k = rw k at e
 
-pub kind-state : (s : List ℕ) (at : ℕ) (b : Book) → kindReply s at (scanOf b) ≡ 0 → byte s at ≡ 2 → stateReply (byte s (at + 1)) (byte s (at + 2)) (length (b .words)) (length (b .states)) ≡ 0
+pub kind-state : (s : List ℕ) (at : ℕ) (b : Book) → kindReply s at (scanOf b) ≡ 0 → byte s at ≡ stateKind
+    → stateReply (byte s (at + partAt)) (byte s (at + flagsAt)) (length (b .words)) (length (b .states)) ≡ 0
 unfolding kindReply
 kind-state s at b e k = rw k at e
 
-pub kind-arc : (s : List ℕ) (at : ℕ) (b : Book) → kindReply s at (scanOf b) ≡ 0 → byte s at ≡ 3 → arcReply (byte s (at + 1)) (byte s (at + 2)) (byte s (at + 3)) (byte s (at + 4)) (scanOf b) ≡ 0
+pub kind-arc : (s : List ℕ) (at : ℕ) (b : Book) → kindReply s at (scanOf b) ≡ 0 → byte s at ≡ arcKind
+    → arcReply (byte s (at + fromAt)) (byte s (at + lowAt)) (byte s (at + highAt)) (byte s (at + toAt)) (scanOf b) ≡ 0
 unfolding kindReply
 kind-arc s at b e k = rw k at e
 

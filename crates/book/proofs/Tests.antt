@@ -2,7 +2,7 @@
 use Prim.Native.Nat.{ℕ, zero, suc, _+_, _≤_, _<_}
 use mathlib.Core.List.{List, [], _∷_, _++_, List·Memᴰ, List·Memᴰ·head, List·Memᴰ·tail}
 use mathlib.Core.Bool.{Bool, true, false, _&&_, _||_}
-use mathlib.Core.Path.{_≡_, refl, subst, sym, ap}
+use mathlib.Core.Path.{_≡_, refl, subst}
 use mathlib.Core.Logic.{_↔_, _⊎_, inl, inr, ⊎-elim}
 use native.Mathlib.Omega.{arith}
 use native.Mathlib.Decide.{ℕ-discrete}
@@ -60,7 +60,11 @@ any-in f {xs = y ∷ ys} (List·Memᴰ·tail m) t = or-right (f y) (any f ys) (a
 
 pub any-out {ℓ} : {A : Type ℓ} (f : A → Bool) (xs : List A) → T (any f xs) → (x : A) × List·Memᴰ x xs × T (f x)
 any-out f [] t = absurd t
-any-out f (x ∷ xs) t = ⊎-elim (λ h. (x, List·Memᴰ·head refl, h)) (λ h. let z = any-out f xs h in (z .0, List·Memᴰ·tail (z .1), z .2)) (or-cases (f x) (any f xs) t)
+any-out f (x ∷ xs) t =
+    ⊎-elim
+    (λ h. (x, List·Memᴰ·head refl, h))
+    (λ h. let z = any-out f xs h in (z .0, List·Memᴰ·tail (z .1), z .2))
+    (or-cases (f x) (any f xs) t)
 
 pub up-in : (a n x : ℕ) → a ≤ x → x < a + n → List·Memᴰ x (upFrom a n)
 up-in a zero x h k = absurd (omega arith)
@@ -83,7 +87,11 @@ end-in f (cons {a = a} {w = w} c) t = or-right (f (a ∷ w)) (someEnd f w) (end-
 
 pub end-out : (f : List ℕ → Bool) (w : List ℕ) → T (someEnd f w) → (u v : List ℕ) × Cut u v w × T (f v)
 end-out f [] t = ([], [], nil, t)
-end-out f (a ∷ w) t = ⊎-elim (λ h. ([], a ∷ w, nil, h)) (λ h. let z = end-out f w h in (a ∷ z .0, z .1, cons (z .2), z .3)) (or-cases (f (a ∷ w)) (someEnd f w) t)
+end-out f (a ∷ w) t =
+    ⊎-elim
+    (λ h. ([], a ∷ w, nil, h))
+    (λ h. let z = end-out f w h in (a ∷ z .0, z .1, cons (z .2), z .3))
+    (or-cases (f (a ∷ w)) (someEnd f w) t)
 
 pub front-in : (f : List ℕ → Bool) {u v w : List ℕ} → Cut u v w → T (f u) → T (someFront f w)
 front-in f {w = []} nil t = t
@@ -92,7 +100,11 @@ front-in f (cons {a = a} {w = w} c) t = or-right (f []) (someFront (λ (u : List
 
 pub front-out : (f : List ℕ → Bool) (w : List ℕ) → T (someFront f w) → (u v : List ℕ) × Cut u v w × T (f u)
 front-out f [] t = ([], [], nil, t)
-front-out f (a ∷ w) t = ⊎-elim (λ h. ([], a ∷ w, nil, h)) (λ h. let z = front-out (λ (u : List ℕ). f (a ∷ u)) w h in (a ∷ z .0, z .1, cons (z .2), z .3)) (or-cases (f []) (someFront (λ (u : List ℕ). f (a ∷ u)) w) t)
+front-out f (a ∷ w) t =
+    ⊎-elim
+    (λ h. ([], a ∷ w, nil, h))
+    (λ h. let z = front-out (λ (u : List ℕ). f (a ∷ u)) w h in (a ∷ z .0, z .1, cons (z .2), z .3))
+    (or-cases (f []) (someFront (λ (u : List ℕ). f (a ∷ u)) w) t)
 
 -- over a stretch of numbers
 pub any-up : (f : ℕ → Bool) (a n : ℕ) → T (any f (upFrom a n)) ↔ ((x : ℕ) × (a ≤ x) × (x < a + n) × T (f x))

@@ -1,5 +1,5 @@
 -- A refusal of each number, records with several faults, and the house book, as one statement over all rows.
-use Prim.Native.Nat.{ℕ, _+_}
+use Prim.Native.Nat.{ℕ}
 use mathlib.Core.List.{List, [], _∷_, _++_, map}
 use mathlib.Core.Path.{_≡_, refl}
 use lib.ListN.{take, set}

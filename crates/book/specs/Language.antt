@@ -1,9 +1,10 @@
 -- What a book says: its words, and for each rule the languages of its three parts.
-use Prim.Native.Nat.{ℕ, zero, suc, _%_}
+use Prim.Native.Nat.{ℕ, zero, suc}
 use mathlib.Core.List.{List, [], _∷_}
-use mathlib.Core.Bool.{Bool, true, false, cond, _&&_, _||_}
+use mathlib.Core.Bool.{Bool, false, _&&_, _||_}
 use lib.Dec.{eqb, leb}
 use lib.ListN.{length, getD}
+use Rattle.book.specs.Format.{leftPart, focusPart, rightPart, startFlag, acceptFlag, bothFlags}
 use Rattle.book.specs.Reading.{State, Arc, Book, bookOf}
 
 -- some element passes the test
@@ -27,24 +28,24 @@ leads arcs p (a ∷ w) q = any (λ (x : Arc). opens x p a && leads arcs (x .to) 
 
 -- the state k of the book; where there is none, one that neither starts nor accepts
 abbrev pub noState : State
-noState = record { rule = 0; part = 0; flags = 0; place = 0 }
+noState = record { rule = 0; part = leftPart; flags = 0; place = 0 }
 
 abbrev pub stateOf : Book → ℕ → State
 stateOf b k = getD (b .states) k noState
 
--- "flags (1 start, 2 accept, 3 both, 0 neither)": flag 1 is start, flag 2 accept
+-- "flags (1 start, 2 accept, 3 both, 0 neither)": the flags are that flag, start or accept, or both
 unfoldable pub flagged : ℕ → ℕ → Bool
-flagged flag flags = cond (eqb flag 1) (eqb (flags % 2) 1) (leb 2 flags)
+flagged flag flags = (eqb flag startFlag || eqb flag acceptFlag) && (eqb flags flag || eqb flags bothFlags)
 
 -- a state of that part with that flag
 abbrev pub isOf : ℕ → ℕ → State → Bool
 isOf part flag st = eqb (st .part) part && flagged flag (st .flags)
 
 abbrev pub starts : Book → ℕ → ℕ → Bool
-starts b part s = isOf part 1 (stateOf b s)
+starts b part s = isOf part startFlag (stateOf b s)
 
 abbrev pub ends : Book → ℕ → ℕ → Bool
-ends b part s = isOf part 2 (stateOf b s)
+ends b part s = isOf part acceptFlag (stateOf b s)
 
 -- s starts, accepts in that part of rule r
 unfoldable pub isStart : Book → ℕ → ℕ → ℕ → Bool
@@ -80,7 +81,12 @@ pub record Rules : Type 0 where
   pub right : ℕ → List ℕ → Bool
 
 abbrev pub rules : Book → Rules
-rules b = record { words = b .words; left = λ (r : ℕ). someEnd (accepts b r 0); focus = λ (r : ℕ). accepts b r 1; right = λ (r : ℕ). someFront (accepts b r 2) }
+rules b = record {
+  words = b .words;
+  left = λ (r : ℕ). someEnd (accepts b r leftPart);
+  focus = λ (r : ℕ). accepts b r focusPart;
+  right = λ (r : ℕ). someFront (accepts b r rightPart);
+}
 
 -- what the bytes of an accepted book say
 abbrev pub rulesIn : List ℕ → Rules

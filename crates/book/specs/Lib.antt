@@ -1,9 +1,13 @@
+-- Believed: what CHECK answers and what a book says. Everything that is promised above rests on these.
 pub mod Format
 pub mod Reading
 pub mod Language
 pub mod StateSets
+-- For the contracts of inner functions, and for the crates above: each is proved of what the believed files say.
 pub mod Scanning
 pub mod Outline
 pub mod Sound
+-- Examples: the house book, a refusal of each number.
 pub mod House
 pub mod Examples
+pub mod Determined

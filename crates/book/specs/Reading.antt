@@ -1,10 +1,10 @@
 -- The meaning of a book: its records, one after the other, give rules, states and arcs, or a refusal with its place.
 use Prim.Native.Nat.{ℕ, zero, suc, _+_, _-_}
 use mathlib.Core.List.{List, [], _∷_, _++_, map}
-use mathlib.Core.Bool.{Bool, true, false, cond}
+use mathlib.Core.Bool.{Bool, true, false}
 use lib.ListN.{length, take, drop}
 use lib.Dec.{ltb, eqb}
-use Rattle.book.specs.Format.{byte, recordSize, byKind, recordReply}
+use Rattle.book.specs.Format.{endKind, endSize, lengthAt, symbolsAt, partAt, flagsAt, fromAt, lowAt, highAt, toAt, byte, recordSize, byKind, recordReply}
 use Rattle.book.specs.declared.Checked.{Checked}
 use Rattle.book.specs.declared.Scan.{Scan}
 
@@ -43,13 +43,13 @@ scanOf b = record { rules = length (b .words); states = length (b .states); arcs
 
 -- the record at `at`
 abbrev pub wordAt : List ℕ → ℕ → List ℕ
-wordAt s at = take (byte s (at + 1)) (drop (at + 2) s)
+wordAt s at = take (byte s (at + lengthAt)) (drop (at + symbolsAt) s)
 
 abbrev pub stateAt : List ℕ → ℕ → Book → State
-stateAt s at b = record { rule = length (b .words) - 1; part = byte s (at + 1); flags = byte s (at + 2); place = at }
+stateAt s at b = record { rule = length (b .words) - 1; part = byte s (at + partAt); flags = byte s (at + flagsAt); place = at }
 
 abbrev pub arcAt : List ℕ → ℕ → Arc
-arcAt s at = record { from = byte s (at + 1); low = byte s (at + 2); high = byte s (at + 3); to = byte s (at + 4) }
+arcAt s at = record { from = byte s (at + fromAt); low = byte s (at + lowAt); high = byte s (at + highAt); to = byte s (at + toAt) }
 
 -- the book with that record
 abbrev pub withRule : List ℕ → Book → Book
@@ -70,7 +70,7 @@ pub data Read : Type 0 where
 
 -- "8: a byte follows the end record; its offset"
 abbrev pub ended : Bool → ℕ → Book → Read
-ended true at b = refused 8 (at + 1)
+ended true at b = refused 8 (at + endSize)
 ended false at b = accepted b
 
 -- "Records are tested from the front": the records from `at` on, after those that gave b; at most n records
@@ -78,8 +78,8 @@ unfoldable pub readFrom : ℕ → List ℕ → ℕ → Book → Read
 readFrom zero s at b = refused 1 at
 readFrom (suc n) s at b =
     elim (recordReply s at (scanOf b)) [
-      | zero ↦ elim (eqb (byte s at) 4) [
-        | true ↦ ended (ltb (at + 1) (length s)) at b
+      | zero ↦ elim (eqb (byte s at) endKind) [
+        | true ↦ ended (ltb (at + endSize) (length s)) at b
         | false ↦ readFrom n s (at + recordSize (byte s at)) (withRecord s at b)
       ]
       | suc r ↦ refused (suc r) at

@@ -3,7 +3,7 @@ use Prim.Native.Nat.{ℕ, _+_}
 use mathlib.Core.List.{List}
 use lib.ListN.{set}
 use Rattle.book.specs.declared.Scan.{Scan}
-use Rattle.book.specs.Format.{byte, byKind}
+use Rattle.book.specs.Format.{partAt, byte, byKind}
 
 -- what is given with a record more
 abbrev pub ruleMore : Scan → Scan
@@ -16,4 +16,4 @@ abbrev pub arcMore : Scan → Scan
 arcMore g = record { rules = g .rules; states = g .states; arcs = g .arcs + 1; first = g .first; parts = g .parts }
 
 unfoldable pub recordMore : List ℕ → ℕ → Scan → Scan
-recordMore s at g = byKind (byte s at) (ruleMore g) (stateMore (byte s (at + 1)) g) (arcMore g) g
+recordMore s at g = byKind (byte s at) (ruleMore g) (stateMore (byte s (at + partAt)) g) (arcMore g) g

@@ -1,6 +1,6 @@
 -- Document 01: "Sets of states are 64-bit numbers, state s worth 2^s."
 use Prim.Native.Nat.{ℕ, zero, suc, _+_, _*_, _/_, _%_, _^_}
-use mathlib.Core.Bool.{Bool, true, false, cond}
+use mathlib.Core.Bool.{Bool, cond}
 use lib.Dec.{eqb}
 
 -- state s is in the set n

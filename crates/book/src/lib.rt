@@ -2,11 +2,12 @@
 ghost use mathlib.Core.Path.{_≡_};
 ghost use Prim.Native.Nat.{_+_, _≤_, _<_};
 ghost use lib.ListN.{length};
-ghost use Rattle.book.specs.Format.{longestWord, mostStates, byte, recordSize, symbolFits, symbolsFit, given, ruleReply, stateReply, arcReply, kindReply, recordReply};
+ghost use Rattle.book.specs.Format.{longestWord, mostStates, ruleSize, byte, recordSize, symbolFits, symbolsFit, given};
+ghost use Rattle.book.specs.Format.{ruleReply, stateReply, arcReply, kindReply, recordReply};
 ghost use Rattle.book.specs.Scanning.{recordMore};
 ghost use Rattle.book.specs.Reading.{refused, answer, checkDef};
 
-pub mod outline; // outline.rt: where an accepted book's states stand, and which of them start or accept
+pub mod outline; // outline.rt: where the records of an accepted book's states and rules stand, and which states start or accept
 
 // The numbers of document 01.
 pub const SYMBOLS: u8 = 16;
@@ -18,6 +19,55 @@ pub const STATES: usize = 64;
 pub const ARCS: usize = 512;
 
 pub const WORD: usize = 8;
+
+// The kinds of a record.
+pub const RULE: u8 = 1;
+
+pub const STATE: u8 = 2;
+
+pub const ARC: u8 = 3;
+
+pub const END: u8 = 4;
+
+// The parts of a rule that have states.
+pub const LEFT: u8 = 0;
+
+pub const FOCUS: u8 = 1;
+
+pub const RIGHT: u8 = 2;
+
+// The flags of a state; 0 is neither.
+pub const START: u8 = 1;
+
+pub const ACCEPT: u8 = 2;
+
+pub const BOTH: u8 = 3;
+
+// The length of each kind's record with its kind byte.
+pub const RULE_SIZE: usize = 10;
+
+pub const STATE_SIZE: usize = 3;
+
+pub const ARC_SIZE: usize = 5;
+
+pub const END_SIZE: usize = 1;
+
+// Where the fields stand in a rule's record, a state's, an arc's.
+pub const LENGTH: usize = 1;
+
+pub const SYMBOLS_AT: usize = 2;
+
+pub const PART: usize = 1;
+
+pub const FLAGS: usize = 2;
+
+pub const FROM: usize = 1;
+
+pub const LOW: usize = 2;
+
+pub const HIGH: usize = 3;
+
+pub const TO: usize = 4;
 
 // CHECK's answer: the reply, its place, and the counts of an accepted book.
 pub struct Checked {
@@ -42,10 +92,10 @@ pub fn record_size(kind: u8) -> usize
     ensures { λ r. ⌜ r ≡ recordSize kind ⌝ }
 {
     match kind {
-        1 => 10,
-        2 => 3,
-        3 => 5,
-        4 => 1,
+        RULE => RULE_SIZE,
+        STATE => STATE_SIZE,
+        ARC => ARC_SIZE,
+        END => END_SIZE,
         0 | 5..=255 => 0,
     }
 }
@@ -72,17 +122,17 @@ fn symbols_fit(s: &[u8], p: usize, n: usize) -> bool
 }
 
 fn rule_reply(s: &[u8], at: usize, rules: usize) -> u8
-    requires { ⌜ at + 10 ≤ length (now s) ⌝ }
+    requires { ⌜ at + ruleSize ≤ length (now s) ⌝ }
     ensures { λ r. ⌜ r ≡ ruleReply (now (s .entry)) at rules ⌝ }
 {
     if RULES <= rules {
         return 3;
     }
-    let n = s[at + 1] as usize;
+    let n = s[at + LENGTH] as usize;
     if WORD < n {
         return 5;
     }
-    if symbols_fit(s, at + 2, n) {
+    if symbols_fit(s, at + SYMBOLS_AT, n) {
         return 0;
     }
     5
@@ -98,19 +148,21 @@ fn state_reply(part: u8, flags: u8, rules: usize, states: usize) -> u8
         return 3;
     }
     match part {
-        0..=2 => {}
-        _ => return 5,
-    }
-    match flags {
-        0..=3 => {}
-        _ => return 5,
-    }
-    if part == 1 {
-        if flags == 3 {
-            return 7;
+        LEFT | RIGHT => {
+            match flags {
+                0 | START | ACCEPT | BOTH => 0,
+                4..=255 => 5,
+            }
         }
+        FOCUS => {
+            match flags {
+                0 | START | ACCEPT => 0,
+                BOTH => 7,
+                4..=255 => 5,
+            }
+        }
+        3..=255 => 5,
     }
-    0
 }
 
 fn given(first: usize, states: usize, k: usize) -> bool
@@ -149,15 +201,17 @@ fn arc_reply(from: u8, low: u8, high: u8, to: u8, scan: Scan) -> u8
 
 // The kind's own tests of the record at `at`.
 fn kind_reply(s: &[u8], at: usize, scan: Scan) -> u8
-    requires { ⌜ (at < length (now s)) × ((at + recordSize (byte (now s) at) ≤ length (now s)) × (scan .states ≤ mostStates)) ⌝ }
+    requires { ⌜ (at < length (now s)) × (at + recordSize (byte (now s) at) ≤ length (now s)) ⌝ }
+    requires { ⌜ (recordSize (byte (now s) at) ≡ 0 → ⊥) × (scan .states ≤ mostStates) ⌝ }
     ensures { λ r. ⌜ r ≡ kindReply (now (s .entry)) at scan ⌝ }
 {
     let kind = s[at];
     match kind {
-        1 => rule_reply(s, at, scan.rules),
-        2 => state_reply(s[at + 1], s[at + 2], scan.rules, scan.states),
-        3 => arc_reply(s[at + 1], s[at + 2], s[at + 3], s[at + 4], scan),
-        _ => { if scan.rules == 0 { 4 } else { 0 } }
+        RULE => rule_reply(s, at, scan.rules),
+        STATE => state_reply(s[at + PART], s[at + FLAGS], scan.rules, scan.states),
+        ARC => arc_reply(s[at + FROM], s[at + LOW], s[at + HIGH], s[at + TO], scan),
+        END => { if scan.rules == 0 { 4 } else { 0 } }
+        0 | 5..=255 => 2, // record_reply has refused it
     }
 }
 
@@ -187,17 +241,18 @@ fn with_record(s: &[u8], at: usize, scan: Scan) -> Scan
     let kind = s[at];
     let mut next = scan;
     match kind {
-        1 => {
+        RULE => {
             next.rules = scan.rules + 1;
             next.first = scan.states;
         }
-        2 => {
+        STATE => {
             let k = scan.states;
-            next.parts[k] = s[at + 1];
+            next.parts[k] = s[at + PART];
             next.states = k + 1;
         }
-        3 => next.arcs = scan.arcs + 1,
-        _ => {}
+        ARC => next.arcs = scan.arcs + 1,
+        END => {}
+        0 | 5..=255 => {}
     }
     next
 }
@@ -232,17 +287,21 @@ pub fn check(book: &[u8]) -> Checked
             return refusal(reply, at);
         }
         let kind = book[at];
-        if kind == 4 {
-            if at + 1 < book.len() {
-                return refusal(8, at + 1);
+        match kind {
+            END => {
+                if at + END_SIZE < book.len() {
+                    return refusal(8, at + END_SIZE);
+                }
+                return Checked {
+                    reply: 0,
+                    place: 0,
+                    rules: scan.rules,
+                    states: scan.states,
+                    arcs: scan.arcs,
+                };
             }
-            return Checked {
-                reply: 0,
-                place: 0,
-                rules: scan.rules,
-                states: scan.states,
-                arcs: scan.arcs,
-            };
+            RULE | STATE | ARC => {}
+            0 | 5..=255 => return refusal(2, at), // record_reply has refused it
         }
         scan = with_record(book, at, scan);
         at += record_size(kind);

@@ -1,7 +1,7 @@
 // The C face: one function for each public operation, with that operation's contract. A slice passes as a pointer and its length in elements.
 ghost use mathlib.Core.Path.{_≡_};
 ghost use Rattle.book.specs.Reading.{checkDef};
-ghost use Rattle.sets.specs.Workspace.{stands, buildDef};
+ghost use Rattle.sets.specs.Workspace.{buildLeaves, buildDef};
 ghost use Rattle.rewriter.specs.Replies.{rewriteLeaves, rewriteDef, accountLeaves, accountDef};
 ghost use Rattle.rewriter.specs.Show.{boundsOf};
 ghost use Rattle.deck.specs.Plain.{plainChecked, plainBuilt, plainRewritten, plainAccounted, plainBounds};
@@ -60,7 +60,7 @@ pub extern "C" fn qafrendi_check(book: &[u8]) -> CChecked
 
 #[no_mangle]
 pub extern "C" fn qafrendi_build(book: &[u8], rows: &mut [u8], sets: &mut [u64]) -> CBuilt
-    ensures { λ r. ⌜ stands (plainBuilt r) (now (rows .exit)) (now (sets .exit)) ≡ buildDef (now (book .entry)) (now (rows .entry)) (now (sets .entry)) ⌝ }
+    ensures { λ r. ⌜ buildLeaves (plainBuilt r) (now (rows .exit)) (now (sets .exit)) ≡ buildDef (now (book .entry)) (now (rows .entry)) (now (sets .entry)) ⌝ }
 {
     let r = sets::build(book, rows, sets);
     CBuilt {

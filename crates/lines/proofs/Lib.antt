@@ -1,3 +1,4 @@
 pub mod Tallies
 pub mod Written
 pub mod Listings
+pub mod One

@@ -16,9 +16,9 @@ use Rattle.stretches.specs.Account.{Line, linesAt, account, lineLength, wordsIn
 use Rattle.stretches.specs.Buffers.{onto}
 use Rattle.lines.specs.Listing.{AfterLines, linesLeave, linesDef}
 use Rattle.stretches.specs.Ready.{Ready}
-use Rattle.stretches.specs.Position.{Takes}
+use Rattle.stretches.specs.Position.{TakenHere}
 use Rattle.lines.specs.Lines.{decider, decidingAt, startLines, LinesFit, LinesPut}
-use Rattle.lines.specs.declared.lines.Deciding.{Deciding}
+use Rattle.lines.specs.declared.writing.Deciding.{Deciding}
 use Rattle.stretches.proofs.Walks.{over, over-suc, over-zero, cover-in, cover-new, stands}
 use Rattle.stretches.proofs.Counts.{words-length}
 use Rattle.stretches.proofs.NoEmpty.{no-empty}
@@ -39,7 +39,7 @@ module _ (b : Rules) (t : List ℕ) where
   unfolding decidingAt
   deciding-fresh i c h = rw (le-ltb i (c .end) h)
 
-  pub deciding-new : (i : ℕ) (c : Deciding) (end rule : ℕ) → c .end ≤ i → Takes b t i end rule → record { start = i; end = end; rule = rule } ≡ decidingAt b t i c
+  pub deciding-new : (i : ℕ) (c : Deciding) (end rule : ℕ) → c .end ≤ i → TakenHere b t i end rule → record { start = i; end = end; rule = rule } ≡ decidingAt b t i c
   deciding-new i c end rule h k = (λ x. record { start = i; end = k .far x; rule = (k .who ∙ ap (ruleOf b t i) (k .far)) x }) ∙ sym (deciding-fresh i c h)
 
   pub deciding-start : decidingAt b t 0 (record { start = 0; end = 0; rule = 0 }) ≡ decider b t (over b t 0)

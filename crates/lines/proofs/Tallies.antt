@@ -19,7 +19,7 @@ use Rattle.stretches.specs.Candidates.{candidate}
 use Rattle.stretches.specs.Account.{account}
 use Rattle.stretches.specs.Sentences.{sum}
 use Rattle.stretches.specs.Buffers.{longestTape}
-use Rattle.stretches.specs.Ready.{Ready, Rights}
+use Rattle.stretches.specs.Ready.{Ready, RightSets}
 use Rattle.stretches.specs.Position.{hits}
 use Rattle.lines.specs.Lines.{hitCount, endCount, startCount}
 use Rattle.stretches.proofs.Lists.{miss}
@@ -115,7 +115,7 @@ pub record Counting (b : Book) (t : List ℕ) (i j set n : ℕ) : Type 0 where
   pub walk : Pruned b t i j set
   pub tally : Tally (endCount (rules b) t i) (suc (length t)) (startCount (rules b) t i) (suc j) n
 
-module _ (book t sets scratch : List ℕ) (seen : Rights book t sets scratch) (i : ℕ) where
+module _ (book t sets scratch : List ℕ) (seen : RightSets book t sets scratch) (i : ℕ) where
   pub counting-start : (L R F : ℕ) → i ≤ length t → L ≡ leftAt (bookOf book) t i → R ≡ getD sets (mostSets + getD scratch i 0) 0 → F ≡ focusFirst (bookOf book) L R
       → Counting (bookOf book) t i i F 0
   counting-start L R F k e f g = record {

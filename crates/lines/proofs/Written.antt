@@ -16,10 +16,10 @@ use Rattle.sets.specs.Focus.{focusFirst, focusNext}
 use Rattle.sets.specs.Numbering.{mostSets}
 use Rattle.stretches.specs.Candidates.{candidate, keep}
 use Rattle.stretches.specs.Account.{Line, each, lineWords, lineLength, wordsIn}
-use Rattle.stretches.specs.Ready.{Rights}
+use Rattle.stretches.specs.Ready.{RightSets}
 use Rattle.stretches.specs.Position.{hits}
 use Rattle.lines.specs.Lines.{lineBy, hitLines, endLines, startLines, LinesFit, LinesPut}
-use Rattle.lines.specs.declared.lines.Deciding.{Deciding}
+use Rattle.lines.specs.declared.writing.Deciding.{Deciding}
 use Rattle.stretches.proofs.Lists.{each-none, each-same, keep-not}
 use Rattle.stretches.proofs.NoEmpty.{NoEmpty, no-empty, past-start}
 use Rattle.stretches.proofs.Front.{Front, front-begin, front-place, front-put, front-finish, put-nil}
@@ -174,7 +174,7 @@ pub record Listed (book t : List ℕ) (i : ℕ) (d : Deciding) (l₀ l : List �
   pub walk : Pruned (bookOf book) t i j set
   pub written : Written (startLines (rulesIn book) t i d) l₀ at l p (pastEnd (rulesIn book) t i d j)
 
-module _ (book t sets scratch : List ℕ) (seen : Rights book t sets scratch) (i : ℕ) (d : Deciding) where
+module _ (book t sets scratch : List ℕ) (seen : RightSets book t sets scratch) (i : ℕ) (d : Deciding) where
   pub listed-start : (L R F : ℕ) (l : List ℕ) (at : ℕ) → i ≤ length t → L ≡ leftAt (bookOf book) t i → R ≡ getD sets (mostSets + getD scratch i 0) 0 → F ≡ focusFirst (bookOf book) L R
       → LinesFit (startLines (rulesIn book) t i d) at l → Listed book t i d l l at at i F
   listed-start L R F l at k e f g h = record {

@@ -8,11 +8,11 @@ use lib.ListN.{length}
 use Rattle.book.specs.Reading.{Book}
 use Rattle.book.specs.Language.{Rules}
 use Rattle.stretches.specs.Candidates.{Stretch, candidate, longest, ruleOf, keep}
-use Rattle.stretches.specs.Account.{Line, each, wordsIn}
+use Rattle.stretches.specs.Account.{Line, verdictBy, each, wordsIn}
 use Rattle.stretches.specs.Sentences.{sum}
 use Rattle.stretches.specs.Position.{hits}
 use Rattle.stretches.specs.Lists.{put}
-use Rattle.lines.specs.declared.lines.Deciding.{Deciding}
+use Rattle.lines.specs.declared.writing.Deciding.{Deciding}
 
 -- how many rules pass at an end
 unfoldable pub hitCount : Book → ℕ → ℕ → ℕ
@@ -34,12 +34,9 @@ decider b t d = record { start = d .start; end = d .end; rule = ruleOf b t (d .s
 unfoldable pub decidingAt : Rules → List ℕ → ℕ → Deciding → Deciding
 decidingAt b t i c = cond (ltb i (c .end)) c (record { start = i; end = longest b t i; rule = ruleOf b t i (longest b t i) })
 
--- the verdict on the candidate from i to j of the rule r, where d decides, and its line
-abbrev pub verdictBy : ℕ → ℕ → ℕ → Deciding → ℕ
-verdictBy i j r d = cond (ltb (d .start) i) 3 (cond (ltb j (d .end)) 1 (cond (ltb (d .rule) r) 2 0))
-
+-- the line of the candidate from i to j of the rule r, where d decides
 abbrev pub lineBy : ℕ → ℕ → ℕ → Deciding → Line
-lineBy i j r d = record { rule = r; start = i; end = j; verdict = verdictBy i j r d; deciding = d .start }
+lineBy i j r d = record { rule = r; start = i; end = j; verdict = verdictBy i j r (d .start) (d .end) (d .rule); deciding = d .start }
 
 -- the lines of one end
 unfoldable pub hitLines : Book → ℕ → ℕ → ℕ → ℕ → Deciding → List Line

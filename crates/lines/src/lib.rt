@@ -1,11 +1,11 @@
 // ACCOUNT's passes over one tape: the candidates are counted before the first word is written, so that a refusal leaves the account as it was.
-use crate::lines::write_lines;
+use crate::writing::write_lines;
+use sets::entries::left_entry;
+use sets::entries::right_set;
 use stretches::outline::ALL_ACCEPTS;
 use stretches::outline::MASKS;
 use stretches::outline::outline_of;
 use stretches::walk::focus_first;
-use stretches::walk::left_step;
-use stretches::walk::right_set;
 use stretches::walk::rule_hits;
 ghost use mathlib.Core.Path.{_≡_};
 ghost use Prim.Native.Nat.{_≤_};
@@ -16,10 +16,10 @@ ghost use Rattle.sets.specs.Sets.{leftAt};
 ghost use Rattle.stretches.specs.Account.{account};
 ghost use Rattle.stretches.specs.Buffers.{longestTape};
 ghost use Rattle.lines.specs.Listing.{linesLeave, linesDef};
-ghost use Rattle.stretches.specs.Ready.{Tests, Outlined, Ready, Rights};
+ghost use Rattle.stretches.specs.Ready.{Tests, Outlined, Ready, RightSets};
 ghost use Rattle.lines.specs.Lines.{hitCount, startCount};
 
-mod lines; // lines.rt: the lines of the account
+mod writing; // writing.rt: the lines of the account, one after the other
 
 // The words of a line of an account: rule, start, end, verdict, deciding start.
 pub const LINE_WORDS: usize = 5;
@@ -64,7 +64,7 @@ fn start_count(
     left: u64,
 ) -> usize
     requires { ⌜ Outlined (bookOf (now book)) rules (now places) (now masks) ⌝ }
-    requires { ⌜ Rights (now book) (now tape) (now sets) (now scratch) ⌝ }
+    requires { ⌜ RightSets (now book) (now tape) (now sets) (now scratch) ⌝ }
     requires { ⌜ (from ≤ length (now tape)) × (length (now tape) ≤ longestTape) × (left ≡ leftAt (bookOf (now book)) (now tape) from) ⌝ }
     ensures { λ n. ⌜ n ≡ startCount (rulesIn (now (book .entry))) (now (tape .entry)) from ⌝ }
 {
@@ -103,7 +103,7 @@ fn count(
     let mut i = 0;
     while i < tape.len() {
         n += start_count(book, places, masks, rules, tape, sets, scratch, i, sets[k]);
-        k = left_step(rows, k, tape[i]);
+        k = left_entry(rows, k, tape[i]);
         i += 1;
     }
     n
@@ -142,9 +142,9 @@ fn count_and_write<'a>(
     }
 }
 
-// The account of one tape after a build and its backward pass. Public, and with a `requires`, as `output::finish` is: who accounts for many
+// The account of one tape after a build and its backward pass. Public, and with a `requires`, as `output::rewrite_ready` is: who accounts for many
 // tapes after one build need not check and build again for each.
-pub fn list(
+pub fn account_ready(
     book: &[u8],
     tape: &[u8],
     rows: &[u8],

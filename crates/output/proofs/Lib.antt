@@ -4,3 +4,4 @@ pub mod Limits
 pub mod Measured
 pub mod Forth
 pub mod Outcomes
+pub mod One

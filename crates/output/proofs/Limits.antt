@@ -16,7 +16,8 @@ use Rattle.book.specs.Language.{Rules, rulesIn}
 use Rattle.stretches.specs.Candidates.{longest, fresh, ruleOf, keep, takenAt, taken}
 use Rattle.stretches.specs.Output.{writtenAt, ruleWord, rewriting}
 use Rattle.stretches.specs.Buffers.{longestTape}
-use Rattle.stretches.specs.Ready.{WordsAt, Ready}
+use Rattle.book.specs.Outline.{WordsAt}
+use Rattle.stretches.specs.Ready.{Ready}
 use Rattle.stretches.specs.Position.{marksAt, takesAt, endNext}
 use Rattle.output.specs.Passes.{mostMarks}
 use Rattle.stretches.proofs.Greatest.{greatest-least, greatest-all, greatest-most, Topped, topped-start, topped-more, topped-less, topped-end}

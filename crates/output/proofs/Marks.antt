@@ -4,12 +4,13 @@ use mathlib.Core.Path.{_≡_, refl, sym, ap, subst, _∙_}
 use mathlib.Core.List.{List, [], _∷_, _++_}
 use native.Mathlib.Omega.{arith}
 use native.Mathlib.Numerals.{add-one}
-use lib.ListN.{length, getD, take, drop, set, length-drop}
-use lib.Seq.{getD-take, getD-drop, drop-cons, drop-length, length-take-le}
+use lib.ListN.{length, getD, take, drop, set}
+use lib.Seq.{getD-take, getD-drop, drop-cons, drop-length}
 use Rattle.book.specs.Format.{byte}
 use Rattle.book.specs.Reading.{wordAt}
+use Rattle.book.specs.Outline.{WordRoom}
+use Rattle.book.proofs.Placing.{word-length}
 use Rattle.stretches.specs.Output.{Mark, marks, symbolsOf, originsOf}
-use Rattle.stretches.specs.Ready.{WordRoom}
 use Rattle.stretches.specs.Lists.{put}
 use Rattle.output.specs.Passes.{WordPut}
 use Rattle.stretches.proofs.Counts.{origins-length}
@@ -37,11 +38,8 @@ origin-at (x ∷ w) i (suc k) h = origin-at w i k (omega arith)
 -- ---- the word in the record at p
 
 module _ (book : List ℕ) (p : ℕ) (r : WordRoom book p) where
-  pub word-length : byte book (p + 1) ≡ length (wordAt book p)
-  word-length = sym (length-take-le (byte book (p + 1)) (drop (p + 2) book) (omega (arith, r .whole, r .short, length-drop (p + 2) book)))
-
   word-symbol : (k : ℕ) → k < length (wordAt book p) → getD book (p + 2 + k) 0 ≡ getD (wordAt book p) k 0
-  word-symbol k h = sym (getD-take (byte book (p + 1)) (drop (p + 2) book) k 0 (omega (arith, word-length)) ∙ getD-drop (p + 2) book k 0)
+  word-symbol k h = sym (getD-take (byte book (p + 1)) (drop (p + 2) book) k 0 (omega (arith, word-length book p r)) ∙ getD-drop (p + 2) book k 0)
 
 -- one element more of a buffer that is filled from the front
 front-set : (l₀ l : List ℕ) (at x : ℕ) (more whole : List ℕ) → at < length l → Front l₀ l at (x ∷ more) whole → Front l₀ (set l at x) (at + 1) more whole

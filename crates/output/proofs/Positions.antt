@@ -12,8 +12,9 @@ use Rattle.sets.specs.Sets.{leftAt}
 use Rattle.sets.specs.Numbering.{mostSets}
 use Rattle.stretches.specs.Candidates.{longest, ruleOf}
 use Rattle.stretches.specs.Output.{wordMarks, ruleWord, symbolsOf, originsOf}
-use Rattle.stretches.specs.Ready.{allStarts, Tests, WordAt, WordsAt, Rights}
-use Rattle.stretches.specs.Position.{Takes, marksAt}
+use Rattle.book.specs.Outline.{WordAt, WordsAt}
+use Rattle.stretches.specs.Ready.{allStarts, Tests, RightSets}
+use Rattle.stretches.specs.Position.{TakenHere, marksAt}
 use Rattle.output.specs.Passes.{Shared, WordPut, KeptPut, Room, MarksPut}
 use Rattle.stretches.specs.Lists.{put}
 use Rattle.stretches.proofs.Walks.{longest-low, some-far}
@@ -45,14 +46,14 @@ module _ (book t : List ℕ) (i end : ℕ) (h : i < end) where
       }
 
 -- where the right set holds no focus start nothing is taken
-pub takes-nothing : (book tape sets scratch masks : List ℕ) (n i R : ℕ) → Tests (bookOf book) n masks → Rights book tape sets scratch → i ≤ length tape
-    → R ≡ getD sets (mostSets + getD scratch i 0) 0 → bitAnd R (getD masks allStarts 0) ≡ 0 → Takes (rulesIn book) tape i i 0
+pub takes-nothing : (book tape sets scratch masks : List ℕ) (n i R : ℕ) → Tests (bookOf book) n masks → RightSets book tape sets scratch → i ≤ length tape
+    → R ≡ getD sets (mostSets + getD scratch i 0) 0 → bitAnd R (getD masks allStarts 0) ≡ 0 → TakenHere (rulesIn book) tape i i 0
 takes-nothing book tape sets scratch masks n i R m seen h e z =
     let L = leftAt (bookOf book) tape i in
     walk-dead book tape sets scratch seen i i 0 i 0 (walk-start book tape sets scratch seen i L R 0 h refl e (none-first (bookOf book) n masks m L R z)) refl
 
 -- a free position
-module _ (book : List ℕ) (ok : checkDef book .reply ≡ 0) (t : List ℕ) (i end : ℕ) (new : end ≤ i) (stop rule : ℕ) (took : Takes (rulesIn book) t i stop rule) where
+module _ (book : List ℕ) (ok : checkDef book .reply ≡ 0) (t : List ℕ) (i end : ℕ) (new : end ≤ i) (stop rule : ℕ) (took : TakenHere (rulesIn book) t i stop rule) where
   none : NoEmpty (rulesIn book)
   none = no-empty book ok
 

@@ -1,10 +1,10 @@
 // REWRITE's forward passes over one tape.
-use crate::output::forward;
-use crate::output::longest_word;
-use crate::output::measure;
+use crate::passes::forward;
+use crate::passes::longest_word;
+use crate::passes::measure;
+use book::outline::place_rules;
 use stretches::outline::MASKS;
 use stretches::outline::outline_of;
-use stretches::outline::place_words;
 ghost use mathlib.Core.Path.{_≡_};
 ghost use Prim.Native.Nat.{min};
 ghost use lib.ListN.{length};
@@ -14,7 +14,7 @@ ghost use Rattle.output.specs.Tape.{tapeLeaves, tapeDef};
 ghost use Rattle.stretches.specs.Ready.{Lent, Ready};
 ghost use Rattle.output.specs.Passes.{neededPast};
 
-mod output; // output.rt: measuring and writing the output
+mod passes; // passes.rt: measuring and writing the output, position after position
 
 // REWRITE's answer: the output's length, and the number of stretches taken.
 pub struct Rewritten {
@@ -75,7 +75,7 @@ fn needed(
 }
 
 // Writes where there is room.
-fn both<'a>(
+fn write_if_room<'a>(
     book: &[u8],
     places: &'a [u16; book::STATES],
     masks: &'a [u64; MASKS],
@@ -131,7 +131,7 @@ fn both<'a>(
 
 // One tape after a build and its backward pass. Public, and with a `requires`: who rewrites many tapes after one build calls it once a tape,
 // where REWRITE would check and build again for each.
-pub fn finish(
+pub fn rewrite_ready(
     book: &[u8],
     tape: &[u8],
     rows: &[u8],
@@ -146,8 +146,8 @@ pub fn finish(
     ensures { λ r. ⌜ tapeLeaves r (now (out .exit)) (now (origins .exit)) ≡ tapeDef (rulesIn (now (book .entry))) (now (tape .entry)) (now (out .entry)) (now (origins .entry)) ⌝ }
 {
     let outline = outline_of(book);
-    let words = place_words(book);
-    both(
+    let words = place_rules(book);
+    write_if_room(
         book,
         &outline.places,
         &outline.masks,

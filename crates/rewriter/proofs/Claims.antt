@@ -5,14 +5,18 @@ use mathlib.Core.List.{List, [], _∷_, map, List·Memᴰ}
 use mathlib.Core.Path.{_≡_}
 use mathlib.Core.Logic.{_↔_, _⊎_}
 use lib.ListN.{length}
+use lib.Seq.{slice}
 use Rattle.book.specs.Reading.{Book, checkDef}
 use Rattle.book.specs.Language.{Rules, rules, rulesIn}
 use Rattle.stretches.specs.Candidates.{ruleOf, taken}
 use Rattle.stretches.specs.Output.{Mark, rewriting, symbolsOf, originsOf}
 use Rattle.stretches.specs.Account.{Line, account, lineLength, wordsIn}
-use Rattle.rewriter.specs.Show.{between, boundsOf}
+use Rattle.stretches.specs.Buffers.{onto}
+use Rattle.rewriter.specs.Show.{between, boundsOf, showDef}
+use Rattle.rewriter.specs.Replies.{accountDef}
 use Rattle.stretches.specs.Paper.{Context, start, end, RC, BookRC, C, Earliest, Over, Overlap, CLM, CLML, RewriteLML}
 use Rattle.stretches.specs.Sentences.{Candidate, Taken, Takes, Sorted, SameCandidate, lineNumber, candidateCount, Judged, takenLines, lineOf, Chain, replace, removed, writes, keptSymbols, writtenWords, Shuffled}
+use Rattle.stretches.specs.Sentences.{symbolsFrom, originsFrom, Traced}
 use Rattle.stretches.specs.Books.{bookP}
 use Rattle.stretches.specs.Table.{rewritten, rows, tape8, table}
 use Rattle.stretches.proofs.Greedy as Greedy
@@ -24,10 +28,12 @@ use Rattle.stretches.proofs.Accounts as Accounts
 use Rattle.stretches.proofs.Replaced as Replaced
 use Rattle.stretches.proofs.Lengths as Lengths
 use Rattle.stretches.proofs.Kept as Kept
+use Rattle.stretches.proofs.Origins as Origins
 use Rattle.stretches.proofs.Counts as Counts
 use Rattle.stretches.proofs.Batches as Batches
 use Rattle.stretches.proofs.NoEmpty as NoEmpty
 use Rattle.rewriter.proofs.Showing as Showing
+use Rattle.rewriter.proofs.ShownAfter as ShownAfter
 
 -- 0. The proved table: cases 1 to 11 of document 01, from the books' bytes. (P's account of case 8 is `account8` beside it.)
 pub proved-table : map rewritten rows ≡ rows
@@ -91,12 +97,23 @@ module _ (b : Rules) (t : List ℕ) where
   pub kept-in-order : Shuffled (keptSymbols b t) (writtenWords b t (taken b t)) (rewriting b t)
   kept-in-order = Kept.rewriting-shuffled b t
 
-  -- "Each output symbol has an origin"
-  pub symbol-each : length (symbolsOf (rewriting b t)) ≡ length (rewriting b t)
-  symbol-each = Counts.symbols-length (rewriting b t)
+  -- the same of the symbols alone, stretch by stretch
+  pub symbol-each : symbolsOf (rewriting b t) ≡ symbolsFrom b t 0 (takenLines (account b t))
+  symbol-each = Origins.rewriting-symbols b t
 
-  pub origin-each : length (originsOf (rewriting b t)) ≡ length (rewriting b t)
-  origin-each = Counts.origins-length (rewriting b t)
+  -- "Each output symbol has a 16-bit origin: a kept symbol its own position, every symbol of a replacement the start of the stretch": all origins,
+  -- stretch by stretch; what each output symbol is; and there are as many of the one as of the other
+  pub origin-each : originsOf (rewriting b t) ≡ originsFrom b t 0 (takenLines (account b t))
+  origin-each = Origins.rewriting-origins b t
+
+  pub mark-each : (m : Mark) → List·Memᴰ m (rewriting b t) → Traced b t m
+  mark-each = Origins.rewriting-traced b t
+
+  pub symbol-count : length (symbolsOf (rewriting b t)) ≡ length (rewriting b t)
+  symbol-count = Counts.symbols-length (rewriting b t)
+
+  pub origin-count : length (originsOf (rewriting b t)) ≡ length (rewriting b t)
+  origin-count = Counts.origins-length (rewriting b t)
 
   -- 4. Document 01, the account: each candidate and nothing else
   pub lines-are-candidates : (i j r : ℕ) → Candidate b t i j r ↔ ((l : Line) × List·Memᴰ l (account b t) × (l .start ≡ i) × (l .end ≡ j) × (l .rule ≡ r))
@@ -143,7 +160,20 @@ module _ (b : Rules) (t : List ℕ) where
 pub accepted-past : (s : List ℕ) → checkDef s .reply ≡ 0 → (t : List ℕ) (i j r : ℕ) → Candidate (rulesIn s) t i j r → i < j
 accepted-past s h t = NoEmpty.past-start (rulesIn s) t (NoEmpty.no-empty s h)
 
--- 6. SHOW of a line of an account is its candidate's stretch.
-pub shown-is-stretch : (s t : List ℕ) → checkDef s .reply ≡ 0 → (k : ℕ) → k < length (account (rulesIn s) t)
-    → between (lineNumber (account (rulesIn s) t) k .start) (lineNumber (account (rulesIn s) t) k .end) ≡ boundsOf (length t) (wordsIn (account (rulesIn s) t)) k
+-- 6. SHOW of a line of an account is its candidate's stretch, where the account stands at the front of any lines; and so it stands after ACCOUNT:
+-- the stretch's bounds, and what stands in it.
+pub shown-is-stretch : (s t lines : List ℕ) → checkDef s .reply ≡ 0 → (k : ℕ) → k < length (account (rulesIn s) t)
+    → between (lineNumber (account (rulesIn s) t) k .start) (lineNumber (account (rulesIn s) t) k .end)
+    ≡ boundsOf (length t) (onto (wordsIn (account (rulesIn s) t)) lines) k
 shown-is-stretch = Showing.bounds-line
+
+module _ (s t rows sets scratch lines : List ℕ) (k : ℕ) where
+  pub shown-after-account : k < accountDef s t rows sets scratch lines .answer .candidates
+      → between (lineNumber (account (rulesIn s) t) k .start) (lineNumber (account (rulesIn s) t) k .end)
+      ≡ boundsOf (length t) (accountDef s t rows sets scratch lines .lines) k
+  shown-after-account = ShownAfter.bounds-after s t rows sets scratch lines k
+
+  pub shown-symbols : k < accountDef s t rows sets scratch lines .answer .candidates
+      → slice (lineNumber (account (rulesIn s) t) k .start) (lineNumber (account (rulesIn s) t) k .end) t
+      ≡ showDef t (accountDef s t rows sets scratch lines .lines) k
+  shown-symbols = ShownAfter.symbols-after s t rows sets scratch lines k

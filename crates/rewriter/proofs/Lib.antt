@@ -8,3 +8,4 @@ pub mod Tapes
 pub mod Whole
 pub mod Callers
 pub mod One
+pub mod ShownAfter

@@ -11,7 +11,7 @@ use lib.ListN.{length, drop, getD}
 use borrow.Author.Tests.{eq-eqb, ne-eqb}
 use Rattle.book.specs.Reading.{Book, checkDef, bookOf}
 use Rattle.sets.specs.Sets.{rightAt}
-use Rattle.sets.specs.Workspace.{AfterBuild, stands, buildDef}
+use Rattle.sets.specs.Workspace.{AfterBuild, buildLeaves, buildDef}
 use Rattle.sets.specs.Tables.{rightSet, Tape}
 use Rattle.sets.specs.declared.Built.{Built}
 use Rattle.sets.proofs.Tables.{tables, right-walk, right-number}
@@ -83,7 +83,7 @@ module _ (book tape rows sets scratch : List ℕ) where
       pub opening-passed : Passed book tape (length rows) (length sets) (length scratch)
       opening-passed = passed book tape (length rows) (length sets) (length scratch) (sym reply-is ∙ z)
 
-      module _ (b : Built) (R S : List ℕ) (as-built : stands b R S ≡ building) (r : Opened) where
+      module _ (b : Built) (R S : List ℕ) (as-built : buildLeaves b R S ≡ building) (r : Opened) where
         pub leaves-unbuilt : (b .reply ≡ 0 → ⊥) → r ≡ opened (refusal (b .reply) 0) (o .rules) → Leaves r R S scratch
         leaves-unbuilt h e = (
           ap (λ (x : Opened). readyLeaves (x .refusal) R S scratch) e

@@ -1,38 +1,35 @@
--- Two results that the contract of REWRITE, of ACCOUNT or of SHOW allows are the same: the answer and every lent buffer, and for SHOW the part
--- of the tape with its place. Assumes nothing.
-use Prim.Native.Nat.{ℕ, _+_}
-use mathlib.Core.Path.{_≡_, sym, _∙_}
-use mathlib.Core.List.{List}
-use lib.ListN.{length}
-use Rattle.rewriter.specs.Replies.{rewriteLeaves, rewriteDef, accountLeaves, accountDef}
-use Rattle.rewriter.specs.Show.{boundsOf, showDef}
-use Rattle.rewriter.specs.declared.shown.Bounds.{Bounds}
-use Rattle.output.specs.declared.Rewritten.{Rewritten}
-use Rattle.lines.specs.declared.Accounted.{Accounted}
+-- The contracts of REWRITE, ACCOUNT and SHOW determine what they give and leave, and so does that of `bounds_of`, by which C gets SHOW.
+-- Assumes nothing.
+use mathlib.Core.Path.{sym, _∙_, refl}
+use Rattle.book.specs.Determined.{Determines, Determined, SamePart}
+use Rattle.rewriter.proofs.rewrite.Kinds as rewrite-kinds
+use Rattle.rewriter.proofs.rewrite.Reads as rewrite-reads
+use Rattle.rewriter.proofs.account.Kinds as account-kinds
+use Rattle.rewriter.proofs.account.Reads as account-reads
+use Rattle.rewriter.proofs.shown.show.Kinds as show-kinds
+use Rattle.rewriter.proofs.shown.show.Reads as show-reads
+use Rattle.rewriter.proofs.shown.bounds_of.Kinds as bounds-kinds
+use Rattle.rewriter.proofs.shown.bounds_of.Reads as bounds-reads
 
-module _ (book tape rows sets scratch : List ℕ) where
-  pub one-rewrite : (out origins : List ℕ) (r r′ : Rewritten) (R S X O G R′ S′ X′ O′ G′ : List ℕ)
-      → rewriteLeaves r R S X O G ≡ rewriteDef book tape rows sets scratch out origins
-      → rewriteLeaves r′ R′ S′ X′ O′ G′ ≡ rewriteDef book tape rows sets scratch out origins
-      → rewriteLeaves r R S X O G ≡ rewriteLeaves r′ R′ S′ X′ O′ G′
-  one-rewrite out origins r r′ R S X O G R′ S′ X′ O′ G′ p q = p ∙ sym q
+-- the answer, rows, sets, scratch, output and origins
+pub one-rewrite : Determined 7 rewrite-kinds.ps rewrite-kinds.r rewrite-reads.Post
+one-rewrite κs a x y v w p q =
+    let e = p ∙ sym q in
+    (λ i. e i .answer, λ i. (tt, (tt, (e i .rows, (e i .sets, (e i .scratch, (e i .out, (e i .origins, tt))))))))
 
-  pub one-account : (lines : List ℕ) (r r′ : Accounted) (R S X L R′ S′ X′ L′ : List ℕ)
-      → accountLeaves r R S X L ≡ accountDef book tape rows sets scratch lines
-      → accountLeaves r′ R′ S′ X′ L′ ≡ accountDef book tape rows sets scratch lines
-      → accountLeaves r R S X L ≡ accountLeaves r′ R′ S′ X′ L′
-  one-account lines r r′ R S X L R′ S′ X′ L′ p q = p ∙ sym q
+-- the answer, rows, sets, scratch and lines
+pub one-account : Determined 6 account-kinds.ps account-kinds.r account-reads.Post
+one-account κs a x y v w p q =
+    let e = p ∙ sym q in
+    (λ i. e i .answer, λ i. (tt, (tt, (e i .rows, (e i .sets, (e i .scratch, (e i .lines, tt)))))))
 
--- SHOW: what stands in the part; its bounds, which `bounds_of` gives; and its place k in the memory m, where the tape lies at `at` of `home`
-module _ (tape lines : List ℕ) (line : ℕ) where
-  pub one-show : (p p′ : List ℕ) → p ≡ showDef tape lines line → p′ ≡ showDef tape lines line → p ≡ p′
-  one-show p p′ e f = e ∙ sym f
+-- where in the tape the part begins, and what stands in it
+pub one-show : Determines 2 show-kinds.ps show-kinds.r (λ κs. SamePart) show-reads.Post
+one-show κs a x y v w p q =
+    let block = p .1 .0 ∙ sym (q .1 .0) in
+    let offset = p .1 .1 ∙ sym (q .1 .1) in
+    (record { place = λ i. (block i, offset i); elements = p .0 ∙ sym (q .0) }, refl)
 
-  pub one-bounds : (n : ℕ) (b b′ : Bounds) → b ≡ boundsOf n lines line → b′ ≡ boundsOf n lines line → b ≡ b′
-  one-bounds n b b′ e f = e ∙ sym f
-
-  pub one-place {ℓ} : {M : Type ℓ} (home m m′ : M) (at k k′ : ℕ)
-      → (m ≡ home) × (k ≡ at + boundsOf (length tape) lines line .start)
-      → (m′ ≡ home) × (k′ ≡ at + boundsOf (length tape) lines line .start)
-      → (m ≡ m′) × (k ≡ k′)
-  one-place home m m′ at k k′ e f = (e .0 ∙ sym (f .0), e .1 ∙ sym (f .1))
+-- the stretch's bounds
+pub one-bounds : Determined 1 bounds-kinds.ps bounds-kinds.r bounds-reads.Post
+one-bounds κs a x y v w p q = (p .0 ∙ sym (q .0), refl)

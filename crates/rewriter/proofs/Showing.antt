@@ -4,17 +4,19 @@ use mathlib.Core.List.{List, [], _∷_, _++_}
 use mathlib.Core.Path.{_≡_, refl, sym, ap, _∙_}
 use native.Mathlib.Omega.{arith}
 use borrow.Author.Tests.{le-ltb, lt-ltb, le-leb, lt-leb}
-use lib.ListN.{length, getD, List·getD-append}
+use lib.ListN.{length, drop, getD, length-append, List·getD-append}
 use lib.Seq.{getD-append-add}
 use Rattle.book.specs.Reading.{checkDef}
 use Rattle.book.specs.Language.{rulesIn}
 use Rattle.stretches.specs.Account.{Line, account, lineWords, lineLength, line-length, wordsIn}
 use Rattle.stretches.specs.Sentences.{lineNumber}
+use Rattle.stretches.specs.Buffers.{onto}
 use Rattle.rewriter.specs.Show.{wordOfLine, startIn, endIn, between, boundsOf}
 use Rattle.stretches.proofs.Sorting.{number-in}
 use Rattle.stretches.proofs.Accounts.{account-candidates}
 use Rattle.stretches.proofs.Counts.{words-length}
 use Rattle.stretches.proofs.NoEmpty.{no-empty, past-start}
+use Rattle.rewriter.proofs.Onto.{onto-at}
 
 pub bounds-short : (n : ℕ) (l : List ℕ) (k : ℕ) → length l < lineLength * (k + 1) → between 0 0 ≡ boundsOf n l k
 unfolding boundsOf
@@ -60,13 +62,19 @@ word-of-line (l ∷ ls) (suc k) w h g =
     ∙ sym (getD-append-add (lineWords l) (wordsIn ls) (k * lineLength + w) 0)
     ∙ ap (λ (x : ℕ). getD (lineWords l ++ wordsIn ls) x 0) e
 
--- in an accepted book's account
-pub bounds-line : (s t : List ℕ) → checkDef s .reply ≡ 0 → (k : ℕ) → k < length (account (rulesIn s) t)
-    → between (lineNumber (account (rulesIn s) t) k .start) (lineNumber (account (rulesIn s) t) k .end) ≡ boundsOf (length t) (wordsIn (account (rulesIn s) t)) k
-bounds-line s t z k h =
+-- in an accepted book's account, written over the front of any lines
+pub bounds-line : (s t lines : List ℕ) → checkDef s .reply ≡ 0 → (k : ℕ) → k < length (account (rulesIn s) t)
+    → between (lineNumber (account (rulesIn s) t) k .start) (lineNumber (account (rulesIn s) t) k .end)
+    ≡ boundsOf (length t) (onto (wordsIn (account (rulesIn s) t)) lines) k
+bounds-line s t lines z k h =
     let b = rulesIn s in
     let ls = account b t in
     let l = lineNumber ls k in
     let c = account-candidates b t (l .start) (l .end) (l .rule) .1 (l, number-in ls k h, refl, refl, refl) in
-    let w = words-length ls in
-    bounds-stretch (length t) (wordsIn ls) k (l .start) (l .end) (omega arith) (word-of-line ls k 1 h (omega arith)) (word-of-line ls k 2 h (omega arith)) (past-start b t (no-empty s z) (l .start) (l .end) (l .rule) c) (c .inside)
+    let n = words-length ls in
+    let m = length-append (wordsIn ls) (drop (length (wordsIn ls)) lines) in
+    bounds-stretch (length t) (onto (wordsIn ls) lines) k (l .start) (l .end) (omega arith)
+    (word-of-line ls k 1 h (omega arith) ∙ sym (onto-at (wordsIn ls) lines (k * lineLength + 1) (omega arith)))
+    (word-of-line ls k 2 h (omega arith) ∙ sym (onto-at (wordsIn ls) lines (k * lineLength + 2) (omega arith)))
+    (past-start b t (no-empty s z) (l .start) (l .end) (l .rule) c)
+    (c .inside)

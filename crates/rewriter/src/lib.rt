@@ -42,7 +42,7 @@ pub fn rewrite(
             taken: 0,
         };
     }
-    output::finish(book, tape, rows, sets, scratch, opened.rules, out, origins)
+    output::rewrite_ready(book, tape, rows, sets, scratch, opened.rules, out, origins)
 }
 
 // Document 01's ACCOUNT: any book, any tape and any buffers get their reply.
@@ -64,5 +64,5 @@ pub fn account(
             candidates: 0,
         };
     }
-    lines::list(book, tape, rows, sets, scratch, opened.rules, lines)
+    lines::account_ready(book, tape, rows, sets, scratch, opened.rules, lines)
 }

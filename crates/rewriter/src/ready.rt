@@ -23,8 +23,7 @@ pub(crate) fn backward(tape: &[u8], rows: &[u8], scratch: &mut [u8])
     scratch[i] = 0;
     while 0 < i {
         i -= 1;
-        let column = sets::PAIRS + tape[i] as usize;
-        number = rows[column + number as usize * sets::ROW];
+        number = sets::entries::right_entry(rows, number, tape[i]);
         scratch[i] = number;
     }
 }

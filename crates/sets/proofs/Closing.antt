@@ -23,7 +23,7 @@ use Rattle.book.proofs.Masking.{no-state}
 use Rattle.book.proofs.Tests.{same-test, any-up}
 use Rattle.sets.specs.Sets.{setOf, intoBy, backBy, leftFirst, leftNext, near, closed, rightLast, rightPrev}
 use Rattle.sets.specs.Focus.{focusStep}
-use Rattle.sets.specs.Stepping.{leaves, stepFold, turned, stepArcs, joins, gather}
+use Rattle.sets.specs.Stepping.{leaves, turned, stepArcs, joins, gather}
 use Rattle.sets.proofs.Folds.{member-step}
 use Rattle.sets.proofs.Masks.{none-of, none-rule, member-all, member-rule, member-of, member-joins, at-rule, below-more, meets}
 
@@ -183,14 +183,7 @@ pub left-first : (b : Book) → Sound b → allMask 0 1 (b .states) ≡ leftFirs
 unfolding leftFirst
 left-first b o = ext _ _ (λ s. member-all b o 0 1 s ∙ sym (member-of b o (starts b 0) (λ k h. none-of b 0 1 k h) s))
 
--- an arc read forwards is itself
-forwards : (arcs : List Arc) → map (turned 1 4) arcs ≡ arcs
-unfolding turned
-forwards [] = refl
-forwards (x ∷ arcs) = ap (λ (l : List Arc). x ∷ l) (forwards arcs)
-
-pub step-is : (b : Book) (F a : ℕ) → Sound b → stepFold (b .arcs) F a ≡ focusStep b F a
-unfolding focusStep stepArcs
-step-is b F a o =
-    ext _ _ (λ s. ap (λ (l : List Arc). member (stepFold l F a) s) (sym (forwards (b .arcs))) ∙ member-into b F a s
-    ∙ sym (member-of b o (intoBy b F a) (λ k h. into-past b F a k o h) s))
+-- the step along the arcs
+pub step-is : (b : Book) (F a : ℕ) → Sound b → stepArcs 1 4 (b .arcs) F a ≡ focusStep b F a
+unfolding focusStep
+step-is b F a o = ext _ _ (λ s. member-into b F a s ∙ sym (member-of b o (intoBy b F a) (λ k h. into-past b F a k o h) s))

@@ -1,15 +1,14 @@
--- The laws of a set's step as a fold over the arcs, and the turn of a loop that takes the lowest state away.
+-- The laws of a set's step as a fold over the arcs. Assumes nothing.
 use mathlib.Core.Path.{_≡_, refl, sym, ap, ap₂, _∙_}
-use Prim.Native.Nat.{ℕ, _-_, _^_, _<_}
+use Prim.Native.Nat.{ℕ, _^_}
 use mathlib.Core.Bool.{Bool, true, false, cond, _&&_, _||_}
 use mathlib.Core.List.{List, [], _∷_, _++_}
 use lib.Dec.{eqb, leb}
-use lib.Bits.{bitOr, bitAnd, or-zero-r}
-use lib.Count.{trailingZeros}
+use lib.Bits.{bitOr, or-zero-r}
 use Rattle.book.specs.Reading.{Arc}
 use Rattle.book.specs.Language.{any}
 use Rattle.book.specs.StateSets.{member}
-use Rattle.book.proofs.Bits.{member-none, member-or, ext, or-assoc, lowest, lowest-or}
+use Rattle.book.proofs.Bits.{member-none, member-or, ext, or-assoc}
 use Rattle.book.proofs.Masking.{member-cond}
 use Rattle.sets.specs.Stepping.{leaves, stepFold, hopFold}
 

@@ -1,4 +1,5 @@
 pub mod Folds
+pub mod Ends
 pub mod Masks
 pub mod Sweep
 pub mod Rows

@@ -346,7 +346,7 @@ module _ (b : Book) (o : Sound b) where
       let s = z .0 in
       let R = eqb (stateOf b s .rule) r in let A = isOf part 2 (stateOf b s) in
       subst T (none-both b o (λ k. isOf part 2 (stateOf b k)) (none-of b part 2) X e s)
-          (and-both A (member X s) (and-right R A (and-left (R && A) (member X s) (z .3))) (and-right (R && A) (member X s) (z .3))))
+      (and-both A (member X s) (and-right R A (and-left (R && A) (member X s) (z .3))) (and-right (R && A) (member X s) (z .3))))
 
   module _ (L : ℕ) where
     no-start : (s : ℕ) → length (b .states) ≤ s → mayStart b L s ≡ false
@@ -365,7 +365,7 @@ module _ (b : Book) (o : Sound b) where
         none s = is-false (mayStart b L s && member R s) (λ t.
             let S = starts b 1 s in let K = meetsAccept b (stateOf b s .rule) 0 L in
             subst T (none-both b o (λ k. isOf 1 1 (stateOf b k)) (none-of b 1 1) R e s)
-                (and-both S (member R s) (and-left S K (and-left (S && K) (member R s) t)) (and-right (S && K) (member R s) t)))
+            (and-both S (member R s) (and-left S K (and-left (S && K) (member R s) t)) (and-right (S && K) (member R s) t)))
 
     -- what a rule gives: its focus starts, where the left set meets its left accepts
     pub opened-mask : (r : ℕ) → openedBy b L r ≡ cond (eqb (bitAnd L (ruleMask 0 2 (b .states) r)) 0) 0 (ruleMask 1 1 (b .states) r)
@@ -391,7 +391,7 @@ module _ (b : Book) (o : Sound b) where
         below (suc n) s ∙ Masks.below-more (stateOf b s .rule) n (mayStart b L s)
         ∙ sym (member-or (openedBelow b L n) (openedBy b L n) s
         ∙ ap₂ (λ (c d : Bool). c || d) (below n s)
-            (member-of b o (λ k. eqb (stateOf b k .rule) n && mayStart b L k) (λ k h. no-start-with (eqb (stateOf b k .rule) n) k h) s)))
+        (member-of b o (λ k. eqb (stateOf b k .rule) n && mayStart b L k) (λ k h. no-start-with (eqb (stateOf b k .rule) n) k h) s)))
 
     -- what all rules give, cut to the right set
     pub below-all : (n R : ℕ) → length (b .words) ≤ n → bitAnd (openedBelow b L n) R ≡ focusFirst b L R

@@ -1,9 +1,39 @@
--- Two results that the contract of `build` allows are the same.
-use Prim.Native.Nat.{ℕ}
-use mathlib.Core.Path.{_≡_, sym, _∙_}
-use mathlib.Core.List.{List}
-use Rattle.sets.specs.Workspace.{stands, buildDef}
-use Rattle.sets.specs.declared.Built.{Built}
+-- The contracts of the public functions determine what they give and leave; all but BUILD's are called with an accepted book. Assumes nothing.
+use mathlib.Core.Path.{refl, sym, _∙_}
+use Rattle.book.specs.Determined.{Determined, Called}
+use Rattle.sets.proofs.build.Kinds as build-kinds
+use Rattle.sets.proofs.build.Reads as build-reads
+use Rattle.sets.proofs.number_book.Kinds as number-kinds
+use Rattle.sets.proofs.number_book.Reads as number-reads
+use Rattle.sets.proofs.stepping.focus_step.Kinds as step-kinds
+use Rattle.sets.proofs.stepping.focus_step.Reads as step-reads
+use Rattle.sets.proofs.stepping.focus_next.Kinds as next-kinds
+use Rattle.sets.proofs.stepping.focus_next.Reads as next-reads
+use Rattle.sets.proofs.entries.left_entry.Kinds as left-entry-kinds
+use Rattle.sets.proofs.entries.left_entry.Reads as left-entry-reads
+use Rattle.sets.proofs.entries.right_entry.Kinds as right-entry-kinds
+use Rattle.sets.proofs.entries.right_entry.Reads as right-entry-reads
+use Rattle.sets.proofs.entries.right_set.Kinds as right-set-kinds
+use Rattle.sets.proofs.entries.right_set.Reads as right-set-reads
 
-pub one-build : (book R S : List ℕ) (r r′ : Built) (R₁ S₁ R₂ S₂ : List ℕ) → stands r R₁ S₁ ≡ buildDef book R S → stands r′ R₂ S₂ ≡ buildDef book R S → stands r R₁ S₁ ≡ stands r′ R₂ S₂
-one-build book R S r r′ R₁ S₁ R₂ S₂ p q = p ∙ sym q
+-- BUILD: the answer, the rows and the sets
+pub one-build : Determined 3 build-kinds.ps build-kinds.r build-reads.Post
+one-build κs a x y v w p q = let e = p ∙ sym q in (λ i. e i .answer, λ i. (tt, (e i .rows, (e i .sets, tt))))
+
+pub one-numbered : Determined 3 number-kinds.ps number-kinds.r (Called 3 number-kinds.ps number-kinds.r number-reads.Pre number-reads.Post)
+one-numbered κs a x y v w p q = let e = p .1 ∙ sym (q .1) in (λ i. e i .answer, λ i. (tt, (e i .rows, (e i .sets, tt))))
+
+pub one-step : Determined 2 step-kinds.ps step-kinds.r (Called 2 step-kinds.ps step-kinds.r step-reads.Pre step-reads.Post)
+one-step κs a x y v w p q = (p .1 ∙ sym (q .1), refl)
+
+pub one-next : Determined 2 next-kinds.ps next-kinds.r (Called 2 next-kinds.ps next-kinds.r next-reads.Pre next-reads.Post)
+one-next κs a x y v w p q = (p .1 ∙ sym (q .1), refl)
+
+pub one-left-entry : Determined 1 left-entry-kinds.ps left-entry-kinds.r (Called 1 left-entry-kinds.ps left-entry-kinds.r left-entry-reads.Pre left-entry-reads.Post)
+one-left-entry κs a x y v w p q = (p .1 ∙ sym (q .1), refl)
+
+pub one-right-entry : Determined 1 right-entry-kinds.ps right-entry-kinds.r (Called 1 right-entry-kinds.ps right-entry-kinds.r right-entry-reads.Pre right-entry-reads.Post)
+one-right-entry κs a x y v w p q = (p .1 ∙ sym (q .1), refl)
+
+pub one-right-set : Determined 2 right-set-kinds.ps right-set-kinds.r (Called 2 right-set-kinds.ps right-set-kinds.r right-set-reads.Pre right-set-reads.Post)
+one-right-set κs a x y v w p q = (p .1 ∙ sym (q .1), refl)

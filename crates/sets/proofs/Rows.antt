@@ -1,55 +1,31 @@
--- The steps of a set on all symbols in one row: an arc's bit is spread over its symbols, and each arc record read adds its hop.
+-- The steps of a set on all symbols in one row: an arc's bit is spread over its symbols, each arc record read adds its hop, and the records of a rule
+-- are read once for all its states in the set. Assumes nothing.
 use Prim.Native.Nat.{ℕ, _+_, _/_, _%_, _^_, _≤_, _<_}
 use mathlib.Core.Path.{_≡_, refl, ap, ap₂, sym, subst, _∙_}
-use mathlib.Core.Logic.{_≢_}
-use mathlib.Core.Bool.{Bool, true, false, cond, _&&_, _||_}
-use mathlib.Core.List.{List, [], _∷_, _++_, map, map-append}
+use mathlib.Core.Logic.{_≢_, _⊎_}
+use mathlib.Core.Bool.{Bool, true, false, cond, _&&_}
+use mathlib.Core.List.{List}
 use native.Mathlib.Decide.{ℕ-discrete, decLt}
 use native.Mathlib.Omega.{arith}
-use lib.Dec.{leb, eqb}
+use lib.Dec.{leb}
 use lib.Bits.{bitOr, bitAnd, or-zero-r, and-mask}
+use lib.Count.{trailingZeros}
 use lib.ListN.{length, getD, set, replicate, length-set}
 use lib.Seq.{getD-set-same, getD-set-other}
-use borrow.Author.Tests.{eqb-true, eq-eqb, ne-eqb, le-leb, lt-leb}
+use borrow.Author.Tests.{eq-eqb, le-leb, lt-leb}
 use Rattle.book.specs.Format.{symbolCount, mostRules, mostStates, byte, recordSize}
-use Rattle.book.specs.Reading.{Arc, Book, empty, arcAt, scanOf, withRecord, bookOf, checkDef}
+use Rattle.book.specs.Reading.{Arc, Book, arcAt, bookOf, checkDef}
+use Rattle.book.specs.Language.{stateOf}
 use Rattle.book.specs.Sound.{Sound}
 use Rattle.book.specs.StateSets.{member}
-use Rattle.book.proofs.Laws.{size-rule, size-state, size-arc}
-use Rattle.book.proofs.Masking.{zeros}
-use Rattle.book.proofs.Passed.{Passed}
-use Rattle.book.proofs.Sound.{kind-arc, arc-passed}
-use Rattle.book.proofs.Walk.{Walk, walk-start, walk-passed, walk-last, walk-more, arcs-more, arcs-same}
-use Rattle.sets.specs.Stepping.{hopFold, stepFold, isEnd, endOf, turned, stepArcs, arcBytes, ArcStands, between, Added, Stepped, gather, sideArcs, closeBy}
-use Rattle.sets.specs.Sides.{firstOf, stepOf, SideMasks}
-use Rattle.sets.proofs.Folds.{step-snoc}
+use Rattle.book.proofs.Bits.{or-assoc, without}
+use Rattle.book.proofs.Pad.{zeros}
+use Rattle.sets.specs.Stepping.{hopFold, isEnd, stepArcs, arcBytes, SweptAll, ArcStands, between, Added, SweptRow, Stepped, gather, sideArcs, closeBy}
+use Rattle.sets.specs.Sides.{sideFirst, sideStep, SideMasks}
+use Rattle.sets.proofs.Ends.{end-is, end-byte, end-small, turned-bytes}
+use Rattle.sets.proofs.Sweep.{Sweeping, Stepping, sweep-start, sweep-ends, sweep-arc, sweep-turn-arc, sweep-turn-state, sweep-end, sweep-none}
+use Rattle.sets.proofs.Sweep.{stepping-start, stepping-end, turn-done, turn-none, turn-swept}
 use Rattle.sets.proofs.Closing.{left-first, left-next, right-last, right-prev}
-
--- ---- an arc read in either direction: its ends stand at their bytes
-end-byte : (p : ℕ) (s : List ℕ) (at : ℕ) → isEnd p ≡ true → endOf p (arcAt s at) ≡ byte s (at + p)
-unfolding isEnd
-end-byte p s at e = go (eqb p 1) refl e
-  where
-    go : (b : Bool) → eqb p 1 ≡ b → (b || eqb p 4) ≡ true → cond b (byte s (at + 1)) (byte s (at + 4)) ≡ byte s (at + p)
-    go true k h = ap (λ (j : ℕ). byte s (at + j)) (sym (eqb-true p 1 k))
-    go false k h = ap (λ (j : ℕ). byte s (at + j)) (sym (eqb-true p 4 h))
-
-end-small : (p : ℕ) → isEnd p ≡ true → p ≤ 4
-unfolding isEnd
-end-small p e = go (eqb p 1) refl e
-  where
-    go : (b : Bool) → eqb p 1 ≡ b → (b || eqb p 4) ≡ true → p ≤ 4
-    go true k h = omega (arith, eqb-true p 1 k)
-    go false k h = omega (arith, eqb-true p 4 h)
-
-turned-bytes : (p q : ℕ) (s : List ℕ) (at : ℕ) → isEnd p ≡ true → isEnd q ≡ true → turned p q (arcAt s at) ≡ arcBytes p q s at
-unfolding turned
-turned-bytes p q s at e f = λ i. record { from = end-byte p s at e i; low = byte s (at + 2); high = byte s (at + 3); to = end-byte q s at f i }
-
--- one arc more
-turned-snoc : (p q : ℕ) (arcs : List Arc) (x : Arc) (set a : ℕ) → stepArcs p q (arcs ++ (x ∷ [])) set a ≡ bitOr (stepArcs p q arcs set a) (hopFold (turned p q x) set a)
-unfolding stepArcs
-turned-snoc p q arcs x set a = ap (λ (l : List Arc). stepFold l set a) (map-append (turned p q) arcs (x ∷ [])) ∙ step-snoc (map (turned p q) arcs) (turned p q x) set a
 
 -- ---- one arc's symbols
 
@@ -146,86 +122,103 @@ add-free x set row e h =
       each = λ a l. sym (ap (λ (b : Bool). bitOr (getD row a 0) (cond (b && (leb (x .low) a && leb a (x .high))) (2 ^ x .to) 0)) e ∙ or-zero-r (getD row a 0));
     }
 
-end-below : (p n : ℕ) (x : Arc) → x .from < n → x .to < n → endOf p x < n
-end-below p n x f t = go (eqb p 1)
-  where
-    go : (b : Bool) → cond b (x .from) (x .to) < n
-    go true = f
-    go false = t
+-- ---- the sweep on all symbols, and the step of a set: what Sweep says of one symbol, of each
 
-end-left : (k : ℕ) → k ≢ 1 → k ≢ 2 → k ≢ 3 → (recordSize k ≡ 0 → ⊥) → k ≡ 4
-unfolding recordSize
-end-left k f g h z = go (ℕ-discrete k 4)
-  where
-    go : Dec (k ≡ 4) → k ≡ 4
-    go (yes e) = e
-    go (no e) = absurd (z (simp (ne-eqb _ _ f, ne-eqb _ _ g, ne-eqb _ _ h, ne-eqb _ _ e)))
+-- how far the loop over the rule's records has come
+pub record SweepingRow (p q : ℕ) (s : List ℕ) (B : Book) (state set at next : ℕ) (row₀ row : List ℕ) : Type 0 where
+  pub more : ℕ → ℕ
+  pub sweeping : (a : ℕ) → Sweeping p q s B state set a (more a) at next
+  pub added : Added more row₀ row
 
-module _ (p q x : ℕ) where
-  -- how far the reading of the book has come
-  pub record RowTo (s : List ℕ) (B : Book) (at : ℕ) (row : List ℕ) : Type 0 where
-    pub book : Book
-    pub walk : Walk s at book B
-    pub done : Stepped (stepArcs p q (book .arcs) x) row
+-- how far the loop over the states has come
+pub record SteppingRow (p q : ℕ) (arcs : List Arc) (set left done : ℕ) (row : List ℕ) : Type 0 where
+  pub long : length row ≡ symbolCount
+  pub each : (a : ℕ) → a < symbolCount → Stepping p q arcs set a left (getD row a 0) done
 
-  pub row-start : (s : List ℕ) → checkDef s .reply ≡ 0 → RowTo s (bookOf s) 0 (replicate symbolCount 0)
-  unfolding stepArcs stepFold
-  row-start s z = record { book = empty; walk = walk-start s z; done = record { long = refl; each = λ a l. zeros symbolCount a } }
+module _ (p q : ℕ) where
+  pub sweep-row-start : (s : List ℕ) (state place set : ℕ) (row : List ℕ) → checkDef s .reply ≡ 0 → place ≡ stateOf (bookOf s) state .place → 0 < place
+      → length row ≡ symbolCount
+      → SweepingRow p q s (bookOf s) state set (place + 3) (state + 1) row row
+  sweep-row-start s state place set row z e h l =
+      record {
+        more = λ a. 0;
+        sweeping = λ a. sweep-start p q s state place set a z e h;
+        added = record { long = l; each = λ a g. sym (or-zero-r (getD row a 0)) };
+      }
 
-  module _ (s : List ℕ) (B : Book) (at : ℕ) (row : List ℕ) (i : RowTo s B at row) where
-    pub row-passed : Passed s at (scanOf (i .book))
-    row-passed = walk-passed s at (i .book) B (i .walk)
+  module _ (s : List ℕ) (B : Book) (state set at next : ℕ) (row₀ row : List ℕ) (i : SweepingRow p q s B state set at next row₀ row) where
+    -- the records are the same for each symbol
+    pub on-zero : Sweeping p q s B state set 0 (i .more 0) at next
+    on-zero = i .sweeping 0
 
     pub row-stands : isEnd p ≡ true → isEnd q ≡ true → byte s at ≡ 3 → ArcStands s at p q
     row-stands e f k =
-        let b = i .book in
-        let w = arc-passed b (arcAt s at) (kind-arc s at b (row-passed .kind) k) in
-        let from : byte s (at + 1) < mostStates = omega (arith, w .from .1, i .walk .sound .states) in
-        let to : byte s (at + 4) < mostStates = omega (arith, w .to .1, i .walk .sound .states) in
+        let x = arcAt s at in
+        let w = sweep-arc p q s B state set 0 (i .more 0) at next on-zero k in
         record {
-          whole = omega (arith, row-passed .whole, size-arc k);
+          whole = w .0;
           ends = (end-small p e, end-small q f);
-          source = subst (λ n. n < mostStates) (end-byte p s at e) (end-below p mostStates (arcAt s at) from to);
-          target = subst (λ n. n < mostStates) (end-byte q s at f) (end-below q mostStates (arcAt s at) from to);
-          top = w .top;
+          source = subst (λ n. n < mostStates) (end-byte p s at e) (end-is (λ n. n < mostStates) p x (w .1 .0) (w .1 .1));
+          target = subst (λ n. n < mostStates) (end-byte q s at f) (end-is (λ n. n < mostStates) q x (w .1 .0) (w .1 .1));
+          top = sweep-ends p q s B state set 0 (i .more 0) at next on-zero k .top;
         }
 
-    -- an arc's record adds its hop, a state's and a rule's nothing, and at the end the row is whole
-    pub row-arc : (row′ : List ℕ) → isEnd p ≡ true → isEnd q ≡ true → byte s at ≡ 3 → Added (hopFold (arcBytes p q s at) x) row row′ → RowTo s B (at + 5) row′
-    row-arc row′ e f k w =
-        let b = i .book in
+    pub sweep-row-arc : (row′ : List ℕ) → isEnd p ≡ true → isEnd q ≡ true → byte s at ≡ 3 → Added (hopFold (arcBytes p q s at) set) row row′
+        → SweepingRow p q s B state set (at + 5) next row₀ row′
+    sweep-row-arc row′ e f k w =
         record {
-          book = withRecord s at b;
-          walk = rw (size-arc k) at (walk-more s at b B (i .walk) (λ j. absurd (omega arith)));
-          done =
-              rw (arcs-more s at b k)
-              (record {
+          more = λ a. bitOr (i .more a) (hopFold (arcBytes p q s at) set a);
+          sweeping =
+              λ a. sweep-turn-arc p q s B state set a (i .more a) at next (i .sweeping a) (hopFold (arcBytes p q s at) set a) k
+              (ap (λ (x : Arc). hopFold x set a) (sym (turned-bytes p q s at e f)));
+          added =
+              record {
                 long = w .long;
-                each = λ a l. w .each a l ∙ ap₂ bitOr (i .done .each a l) (ap (λ (y : Arc). hopFold y x a) (sym (turned-bytes p q s at e f))) ∙ sym (turned-snoc p q (b .arcs) (arcAt s at) x a);
-              });
+                each =
+                    λ a l. w .each a l ∙ ap (λ (x : ℕ). bitOr x (hopFold (arcBytes p q s at) set a)) (i .added .each a l)
+                    ∙ or-assoc (getD row₀ a 0) (i .more a) (hopFold (arcBytes p q s at) set a);
+              };
         }
 
-    row-same : byte s at ≢ 3 → Stepped (stepArcs p q (withRecord s at (i .book) .arcs) x) row
-    row-same g = rw (arcs-same s at (i .book) g) (i .done)
+    pub sweep-row-state : byte s at ≡ 2 → SweepingRow p q s B state set (at + 3) (next + 1) row₀ row
+    sweep-row-state k = record { more = i .more; sweeping = λ a. sweep-turn-state p q s B state set a (i .more a) at next (i .sweeping a) k; added = i .added }
 
-    pub row-state : byte s at ≡ 2 → RowTo s B (at + 3) row
-    row-state k =
-        record {
-          book = withRecord s at (i .book);
-          walk = rw (size-state k) at (walk-more s at (i .book) B (i .walk) (λ j. absurd (omega arith)));
-          done = row-same (λ j. absurd (omega arith));
-        }
+    swept : ((a : ℕ) → SweptAll p q (B .arcs) state set a (i .more a) next) → SweptRow p q (B .arcs) state set next row₀ row
+    swept f = record { more = i .more; swept = f; added = i .added }
 
-    pub row-rule : byte s at ≡ 1 → RowTo s B (at + 10) row
-    row-rule k =
-        record {
-          book = withRecord s at (i .book);
-          walk = rw (size-rule k) at (walk-more s at (i .book) B (i .walk) (λ j. absurd (omega arith)));
-          done = row-same (λ j. absurd (omega arith));
-        }
+    pub sweep-row-end : (byte s at ≡ 1) ⊎ (byte s at ≡ 4) → SweptRow p q (B .arcs) state set next row₀ row
+    sweep-row-end k = swept (λ a. sweep-end p q s B state set a (i .more a) at next (i .sweeping a) k)
 
-    pub row-end : byte s at ≢ 3 → byte s at ≢ 2 → byte s at ≢ 1 → Stepped (stepArcs p q (B .arcs) x) row
-    row-end f g h = rw (← (walk-last s at (i .book) B (i .walk) (end-left (byte s at) h g f (row-passed .known)))) (i .done)
+    pub sweep-row-none : recordSize (byte s at) ≡ 0 → SweptRow p q (B .arcs) state set next row₀ row
+    sweep-row-none e = swept (λ a. sweep-none p q s B state set a (i .more a) at next (i .sweeping a) e)
+
+  pub step-row-start : (arcs : List Arc) (set : ℕ) → set < 2 ^ 64 → SteppingRow p q arcs set set 0 (replicate symbolCount 0)
+  step-row-start arcs set h =
+      record { long = refl; each = λ a l. subst (λ n. Stepping p q arcs set a set n 0) (sym (zeros symbolCount a)) (stepping-start p q arcs set a h) }
+
+  module _ (arcs : List Arc) (set left done : ℕ) (row : List ℕ) (i : SteppingRow p q arcs set left done row) where
+    pub row-small : left < 2 ^ 64
+    row-small = i .each 0 (omega arith) .small
+
+    pub step-row-end : left ≡ 0 → Stepped (stepArcs p q arcs set) row
+    step-row-end e = record { long = i .long; each = λ a l. stepping-end p q arcs set a left (getD row a 0) done e (i .each a l) }
+
+    module _ (h : 0 < left) where
+      pub row-turn-done : trailingZeros 64 left < done → SteppingRow p q arcs set (without left) done row
+      row-turn-done l = record { long = i .long; each = λ a g. turn-done p q arcs set a left (getD row a 0) done h (i .each a g) l }
+
+      pub row-turn-none : ((a : ℕ) → stepArcs p q arcs (2 ^ trailingZeros 64 left) a ≡ 0) → SteppingRow p q arcs set (without left) done row
+      row-turn-none e = record { long = i .long; each = λ a g. turn-none p q arcs set a left (getD row a 0) done h (i .each a g) (e a) }
+
+      pub row-turn-swept : (next : ℕ) (row′ : List ℕ) → SweptRow p q arcs (trailingZeros 64 left) set next row row′
+          → SteppingRow p q arcs set (without left) next row′
+      row-turn-swept next row′ w =
+          record {
+            long = w .added .long;
+            each =
+                λ a g. subst (λ n. Stepping p q arcs set a (without left) n next) (sym (w .added .each a g))
+                (turn-swept p q arcs set a left (getD row a 0) done h (i .each a g) (w .more a) next (w .swept a));
+          }
 
 -- the row of either side
 pub row-right : (back : Bool) (arcs : List Arc) (x : ℕ) (row : List ℕ) → back ≡ true → Stepped (stepArcs 4 1 arcs x) row → Stepped (sideArcs back arcs x) row
@@ -248,18 +241,18 @@ module _ (lefts rights : ℕ) (starts ends : List ℕ) (back : Bool) (x : ℕ) w
 
 -- it is the side's set: after no symbol, and after one more
 module _ (b : Book) (o : Sound b) (lefts rights : ℕ) (starts ends : List ℕ) (m : SideMasks b lefts rights starts ends) where
-  pub close-first : (back : Bool) → closeBy lefts rights starts ends back 0 ≡ firstOf b back
-  unfolding closeBy firstOf
+  pub close-first : (back : Bool) → closeBy lefts rights starts ends back 0 ≡ sideFirst b back
+  unfolding closeBy sideFirst
   close-first true =
       right-last b (bitOr rights 0) starts ends o (or-zero-r rights ∙ m .right-accepts) (m .right-starts) (m .focus-accepts)
   close-first false = or-zero-r lefts ∙ m .left-starts ∙ left-first b o
 
-  pub close-step : (back : Bool) (x a : ℕ) → closeBy lefts rights starts ends back (sideArcs back (b .arcs) x a) ≡ stepOf b back x a
-  unfolding closeBy sideArcs stepOf
+  pub close-step : (back : Bool) (x a : ℕ) → closeBy lefts rights starts ends back (sideArcs back (b .arcs) x a) ≡ sideStep b back x a
+  unfolding closeBy sideArcs sideStep
   close-step true x a =
       right-prev b x a (bitOr rights (stepArcs 4 1 (b .arcs) x a)) starts ends o (ap (λ (y : ℕ). bitOr y (stepArcs 4 1 (b .arcs) x a)) (m .right-accepts)) (m .right-starts) (m .focus-accepts)
   close-step false x a = ap (λ (y : ℕ). bitOr y (stepArcs 1 4 (b .arcs) x a)) (m .left-starts) ∙ left-next b x a o
 
   pub close-row : (back : Bool) (x : ℕ) (row : List ℕ) → Stepped (sideArcs back (b .arcs) x) row → (a : ℕ) → a < symbolCount
-      → closeBy lefts rights starts ends back (getD row a 0) ≡ stepOf b back x a
+      → closeBy lefts rights starts ends back (getD row a 0) ≡ sideStep b back x a
   close-row back x row w a h = ap (closeBy lefts rights starts ends back) (w .each a h) ∙ close-step back x a

@@ -10,7 +10,7 @@ use Rattle.book.specs.Format.{symbolCount}
 use Rattle.book.specs.Reading.{bookOf}
 use Rattle.sets.specs.Sets.{leftFirst, leftNext, rightLast, rightPrev, after, before}
 use Rattle.sets.specs.Numbering.{mostSets, pairs, idx, pad}
-use Rattle.sets.specs.Workspace.{rowBytes, setWords, leftTable, rightTable, AfterBuild, stands, filled, buildDef}
+use Rattle.sets.specs.Workspace.{rowBytes, setWords, leftTable, rightTable, AfterBuild, buildLeaves, filled, buildDef}
 use Rattle.sets.specs.Tables.{leftCount, rightCount, leftEntry, rightEntry, leftSet, rightSet, Tape, Tables}
 use Rattle.sets.specs.Counting.{leftOver, rightOver}
 use Rattle.sets.specs.declared.Built.{Built}
@@ -86,7 +86,7 @@ tables book R S z = by (buildDef book R S) (way book R S) z
     by x (built o l r e) z = filled-tables book R S l r x e
 
 -- the same from the contract of `build`
-pub built-tables : (book R S : List ℕ) (r : Built) (R′ S′ : List ℕ) → stands r R′ S′ ≡ buildDef book R S → r .reply ≡ 0 → Tables book R′ S′
+pub built-tables : (book R S : List ℕ) (r : Built) (R′ S′ : List ℕ) → buildLeaves r R′ S′ ≡ buildDef book R S → r .reply ≡ 0 → Tables book R′ S′
 built-tables book R S r R′ S′ e z =
     subst (λ (x : AfterBuild). Tables book (x .rows) (x .sets)) (sym e) (tables book R S (sym (ap (λ (x : AfterBuild). x .answer .reply) e) ∙ z))
 

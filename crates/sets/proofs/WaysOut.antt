@@ -12,33 +12,33 @@ use lib.Seq.{drop-drop}
 use borrow.Author.Tests.{eq-eqb, ne-eqb, lt-ltb, le-ltb}
 use Rattle.book.specs.Reading.{Book, checkDef, bookOf}
 use Rattle.sets.specs.Numbering.{mostSets, pairs, Table, all, pad}
-use Rattle.sets.specs.Workspace.{rowBytes, setWords, leftTable, rightTable, AfterBuild, stands, refusal, unchanged, cleared, filled, numbered, buildDef}
+use Rattle.sets.specs.Workspace.{rowBytes, setWords, leftTable, rightTable, AfterBuild, buildLeaves, refusal, unchanged, cleared, filled, numbered, buildDef}
 use Rattle.sets.specs.Tables.{leftCount, rightCount}
-use Rattle.sets.specs.Sides.{firstOf, stepOf, tableOf, NumberedAt}
+use Rattle.sets.specs.Sides.{sideFirst, sideStep, sideTable, NumberedAt}
 use Rattle.sets.specs.declared.Built.{Built}
 use Rattle.sets.proofs.Parts.{three}
 
 -- the two sides by their names
-pub by-name : (b : Book) (R S : List ℕ) → numbered (tableOf b false) (tableOf b true) R S ≡ numbered (leftTable b) (rightTable b) R S
-unfolding tableOf leftTable rightTable stepOf firstOf
+pub by-name : (b : Book) (R S : List ℕ) → numbered (sideTable b false) (sideTable b true) R S ≡ numbered (leftTable b) (rightTable b) R S
+unfolding sideTable leftTable rightTable sideStep sideFirst
 by-name b R S = refl
 
 module _ (book R S : List ℕ) where
   -- CHECK's refusals, and a workspace that is too short: nothing is changed
-  pub way-refused : (r : Built) → (checkDef book .reply ≡ 0 → ⊥) → r ≡ refusal (checkDef book .reply) (checkDef book .place) → stands r R S ≡ buildDef book R S
+  pub way-refused : (r : Built) → (checkDef book .reply ≡ 0 → ⊥) → r ≡ refusal (checkDef book .reply) (checkDef book .place) → buildLeaves r R S ≡ buildDef book R S
   unfolding buildDef
-  way-refused r h e = simp (ne-eqb _ _ h) (ap (λ (a : Built). stands a R S) e)
+  way-refused r h e = simp (ne-eqb _ _ h) (ap (λ (a : Built). buildLeaves a R S) e)
 
   module _ (z : checkDef book .reply ≡ 0) where
-    way-short : (ltb (length R) rowBytes || ltb (length S) setWords) ≡ true → stands (refusal 11 0) R S ≡ buildDef book R S
+    way-short : (ltb (length R) rowBytes || ltb (length S) setWords) ≡ true → buildLeaves (refusal 11 0) R S ≡ buildDef book R S
     unfolding buildDef
     way-short e = simp (eq-eqb _ _ z, e)
 
-    pub way-rows : (r : Built) → length R < rowBytes → r ≡ refusal 11 0 → stands r R S ≡ buildDef book R S
-    way-rows r h e = ap (λ (a : Built). stands a R S) e ∙ way-short (simp (lt-ltb _ _ h))
+    pub way-rows : (r : Built) → length R < rowBytes → r ≡ refusal 11 0 → buildLeaves r R S ≡ buildDef book R S
+    way-rows r h e = ap (λ (a : Built). buildLeaves a R S) e ∙ way-short (simp (lt-ltb _ _ h))
 
-    pub way-sets : (r : Built) → length S < setWords → r ≡ refusal 11 0 → stands r R S ≡ buildDef book R S
-    way-sets r h e = ap (λ (a : Built). stands a R S) e ∙ way-short (simp (lt-ltb _ _ h, or-true))
+    pub way-sets : (r : Built) → length S < setWords → r ≡ refusal 11 0 → buildLeaves r R S ≡ buildDef book R S
+    way-sets r h e = ap (λ (a : Built). buildLeaves a R S) e ∙ way-short (simp (lt-ltb _ _ h, or-true))
 
     -- else both sides are numbered
     pub way-on : rowBytes ≤ length R → setWords ≤ length S → numbered (leftTable (bookOf book)) (rightTable (bookOf book)) R S ≡ buildDef book R S
@@ -66,11 +66,11 @@ module _ (left right : Table) (R S : List ℕ) where
 module _ (left right : Table) (R S : List ℕ) (n : ℕ) (R₁ S₁ : List ℕ) (one : NumberedAt left n 0 0 R S R₁ S₁) where
   -- 13: both parts all 0
   pub way-left : (r : Built) (R₂ S₂ : List ℕ) → mostSets < n → R₂ ≡ pad rowBytes [] ++ drop rowBytes R₁ → S₂ ≡ pad setWords [] ++ drop setWords S₁ → r ≡ refusal 13 0
-      → stands r R₂ S₂ ≡ numbered left right R S
+      → buildLeaves r R₂ S₂ ≡ numbered left right R S
   way-left r R₂ S₂ o er es e =
       let rows = er ∙ ap (λ (l : List ℕ). pad rowBytes [] ++ l) (past pairs pairs R R₁ (one .rows-after)) in
       let sets = es ∙ ap (λ (l : List ℕ). pad setWords [] ++ l) (past mostSets mostSets S S₁ (one .sets-after)) in
-      (λ i. stands (e i) (rows i) (sets i)) ∙ sym (numbered-left left right R S (one .numbered .over o))
+      (λ i. buildLeaves (e i) (rows i) (sets i)) ∙ sym (numbered-left left right R S (one .numbered .over o))
 
   module _ (few : n ≤ mostSets) (m : ℕ) (R₂ S₂ : List ℕ) (two : NumberedAt right m pairs mostSets R₁ S₁ R₂ S₂) where
     fits : length (left .sets) ≤ mostSets
@@ -78,14 +78,14 @@ module _ (left right : Table) (R S : List ℕ) (n : ℕ) (R₁ S₁ : List ℕ) 
 
     -- 14: both parts all 0
     pub way-right : (r : Built) (R₃ S₃ : List ℕ) → mostSets < m → R₃ ≡ pad rowBytes [] ++ drop rowBytes R₂ → S₃ ≡ pad setWords [] ++ drop setWords S₂ → r ≡ refusal 14 0
-        → stands r R₃ S₃ ≡ numbered left right R S
+        → buildLeaves r R₃ S₃ ≡ numbered left right R S
     way-right r R₃ S₃ o er es e =
         let rows = er ∙ ap (λ (l : List ℕ). pad rowBytes [] ++ l) (two .rows-after ∙ past pairs pairs R R₁ (one .rows-after)) in
         let sets = es ∙ ap (λ (l : List ℕ). pad setWords [] ++ l) (two .sets-after ∙ past mostSets mostSets S S₁ (one .sets-after)) in
-        (λ i. stands (e i) (rows i) (sets i)) ∙ sym (numbered-right left right R S fits (two .numbered .over o))
+        (λ i. buildLeaves (e i) (rows i) (sets i)) ∙ sym (numbered-right left right R S fits (two .numbered .over o))
 
     -- 0: the left part, the right part, and what stood past them
-    pub way-built : (r : Built) → m ≤ mostSets → r ≡ record { reply = 0; place = 0; left = n; right = m } → stands r R₂ S₂ ≡ numbered left right R S
+    pub way-built : (r : Built) → m ≤ mostSets → r ≡ record { reply = 0; place = 0; left = n; right = m } → buildLeaves r R₂ S₂ ≡ numbered left right R S
     way-built r k e =
         let answer = e ∙ ap₂ (λ (x y : ℕ). record { reply = 0; place = 0; left = x; right = y }) (one .numbered .count few) (two .numbered .count k) in
         let rows : R₂ ≡ pad pairs (left .rows) ++ (pad pairs (right .rows) ++ drop rowBytes R) =
@@ -96,7 +96,7 @@ module _ (left right : Table) (R S : List ℕ) (n : ℕ) (R₁ S₁ : List ℕ) 
         three mostSets mostSets S₂
         ∙ ap₂ _++_ (two .sets-before ∙ one .numbered .sets few) (ap₂ _++_ (two .numbered .sets k) (two .sets-after ∙ past mostSets mostSets S S₁ (one .sets-after)))
         in
-        (λ i. stands (answer i) (rows i) (sets i)) ∙ sym (numbered-both left right R S fits (omega (arith, two .numbered .count k)))
+        (λ i. buildLeaves (answer i) (rows i) (sets i)) ∙ sym (numbered-both left right R S fits (omega (arith, two .numbered .count k)))
 
 -- the replies before 13 and 14 pass
 pub record Room (book R S : List ℕ) : Type 0 where

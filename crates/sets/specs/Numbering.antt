@@ -1,11 +1,12 @@
 -- Document 01, "The two automata": "Each side's sets are numbered: 0 for the empty tape; then, for each numbered set in turn and each
 -- symbol 0 to 15, the next set not met before gets the next number." Over any step f and any first set s.
-use Prim.Native.Nat.{ℕ, zero, suc, _+_, _-_, _*_, _/_, _%_}
+use Prim.Native.Nat.{ℕ, zero, suc, _+_, _*_, _/_, _%_}
 use mathlib.Core.Bool.{true, false}
 use mathlib.Core.List.{List, [], _∷_, _++_}
 use lib.Dec.{ltb, eqb}
-use lib.ListN.{length, getD, replicate}
+use lib.ListN.{length, getD}
 use Rattle.book.specs.Format.{symbolCount}
+unfoldable pub use Rattle.book.specs.Format.{pad}
 
 -- "at most 256 sets on each side"
 abbrev pub mostSets : ℕ
@@ -49,7 +50,3 @@ run f s (suc j) = turn f j (run f s j)
 -- after all pairs of the sets that may have a number
 unfoldable pub all : (ℕ → ℕ → ℕ) → ℕ → Table
 all f s = run f s pairs
-
--- "Entries past a count are 0": the list with zeros after it, n in all
-unfoldable pub pad : ℕ → List ℕ → List ℕ
-pad n l = l ++ replicate (n - length l) 0

@@ -9,14 +9,14 @@ use Rattle.book.specs.Outline.{EachMask, allMask}
 use Rattle.sets.specs.Sets.{leftFirst, leftNext, rightLast, rightPrev}
 use Rattle.sets.specs.Numbering.{mostSets, pairs, Table, all, pad}
 
-unfoldable pub firstOf : Book → Bool → ℕ
-firstOf b back = cond back (rightLast b) (leftFirst b)
+unfoldable pub sideFirst : Book → Bool → ℕ
+sideFirst b back = cond back (rightLast b) (leftFirst b)
 
-unfoldable pub stepOf : Book → Bool → ℕ → ℕ → ℕ
-stepOf b back set a = cond back (rightPrev b set a) (leftNext b set a)
+unfoldable pub sideStep : Book → Bool → ℕ → ℕ → ℕ
+sideStep b back set a = cond back (rightPrev b set a) (leftNext b set a)
 
-unfoldable pub tableOf : Book → Bool → Table
-tableOf b back = all (stepOf b back) (firstOf b back)
+unfoldable pub sideTable : Book → Bool → Table
+sideTable b back = all (sideStep b back) (sideFirst b back)
 
 -- what is taken from an accepted book once, for all its steps: the set of all left starts and of all right accepts, and of each rule the
 -- right starts and the focus accepts

@@ -10,7 +10,6 @@ use lib.ListN.{length, getD}
 use Rattle.book.specs.Format.{byte, symbolCount, mostRules, mostStates}
 use Rattle.book.specs.Reading.{Arc}
 use Rattle.book.specs.StateSets.{member}
-use Rattle.sets.specs.declared.stepping.Swept.{Swept}
 
 -- the arc leaves a state of the set and is open to the symbol
 abbrev pub leaves : ℕ → ℕ → Arc → Bool
@@ -47,12 +46,12 @@ arcBytes p q s at = record { from = byte s (at + p); low = byte s (at + 2); high
 abbrev pub Within : ℕ → ℕ → Type 0
 Within x y = bitOr x y ≡ y
 
--- what the records from a state's own on to the end of its rule give: nothing that the arcs do not give to the set, and all that they give
--- to its states from that one up to and not including `next`
-pub record SweptAll (arcs : List Arc) (state set a : ℕ) (r : Swept) : Type 0 where
-  pub past : state < r .next
-  pub within : Within (r .out) (stepFold arcs set a)
-  pub each : (t : ℕ) → state ≤ t → t < r .next → member set t ≡ true → Within (stepFold arcs (2 ^ t) a) (r .out)
+-- what the records from a state's own on to the end of its rule give on one symbol: nothing that the arcs do not give to the set, and all that
+-- they give to its states from that one up to and not including `next`
+pub record SweptAll (p q : ℕ) (arcs : List Arc) (state set a out next : ℕ) : Type 0 where
+  pub past : state < next
+  pub within : Within out (stepArcs p q arcs set a)
+  pub each : (t : ℕ) → state ≤ t → t < next → member set t ≡ true → Within (stepArcs p q arcs (2 ^ t) a) out
 
 -- an arc's record is whole, its two ends name states that a set can hold, and it is open to no symbol past the last
 pub record ArcStands (s : List ℕ) (at p q : ℕ) : Type 0 where
@@ -70,6 +69,12 @@ between low high bit a = cond (leb low a && leb a high) bit 0
 pub record Added (more : ℕ → ℕ) (row row′ : List ℕ) : Type 0 where
   pub long : length row′ ≡ symbolCount
   pub each : (a : ℕ) → a < symbolCount → getD row′ a 0 ≡ bitOr (getD row a 0) (more a)
+
+-- the same records on all symbols: what they give is added to the row
+pub record SweptRow (p q : ℕ) (arcs : List Arc) (state set next : ℕ) (row row′ : List ℕ) : Type 0 where
+  pub more : ℕ → ℕ
+  pub swept : (a : ℕ) → SweptAll p q arcs state set a (more a) next
+  pub added : Added more row row′
 
 -- the row has the step on each symbol
 pub record Stepped (step : ℕ → ℕ) (row : List ℕ) : Type 0 where

@@ -29,8 +29,8 @@ pub record AfterBuild : Type 0 where
   pub rows : List ℕ
   pub sets : List ℕ
 
-abbrev pub stands : Built → List ℕ → List ℕ → AfterBuild
-stands answer rows sets = record { answer = answer; rows = rows; sets = sets }
+abbrev pub buildLeaves : Built → List ℕ → List ℕ → AfterBuild
+buildLeaves answer rows sets = record { answer = answer; rows = rows; sets = sets }
 
 -- "Every refusal returns 0 for these."
 abbrev pub refusal : ℕ → ℕ → Built
@@ -38,16 +38,16 @@ refusal reply place = record { reply = reply; place = place; left = 0; right = 0
 
 -- "1 to 12 change no buffer."
 abbrev pub unchanged : ℕ → ℕ → List ℕ → List ℕ → AfterBuild
-unchanged reply place rows sets = stands (refusal reply place) rows sets
+unchanged reply place rows sets = buildLeaves (refusal reply place) rows sets
 
 -- "13 and 14 leave the workspace parts all 0 and nothing else changed."
 abbrev pub cleared : ℕ → List ℕ → List ℕ → AfterBuild
-cleared reply rows sets = stands (refusal reply 0) (pad rowBytes [] ++ drop rowBytes rows) (pad setWords [] ++ drop setWords sets)
+cleared reply rows sets = buildLeaves (refusal reply 0) (pad rowBytes [] ++ drop rowBytes rows) (pad setWords [] ++ drop setWords sets)
 
 -- "Entries past a count are 0." "Bytes past these parts keep their values."
 abbrev pub filled : Table → Table → List ℕ → List ℕ → AfterBuild
 filled left right rows sets =
-    stands (record { reply = 0; place = 0; left = length (left .sets); right = length (right .sets) })
+    buildLeaves (record { reply = 0; place = 0; left = length (left .sets); right = length (right .sets) })
     (pad pairs (left .rows) ++ (pad pairs (right .rows) ++ drop rowBytes rows))
     (pad mostSets (left .sets) ++ (pad mostSets (right .sets) ++ drop setWords sets))
 

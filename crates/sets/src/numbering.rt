@@ -1,13 +1,14 @@
 // The numbering of a side: nested loops over the numbered sets and the symbols, in turn. One function serves both sides; `back` is the
-// right one. Lent with the book: all left starts (`lefts`), all right accepts (`rights`), and of each rule the right starts (`starts`) and
-// the focus accepts (`ends`).
+// right one. Lent with the book: the places of its states, all left starts (`lefts`), all right accepts (`rights`), and of each rule the right
+// starts (`starts`) and the focus accepts (`ends`).
 ghost use mathlib.Core.Path.{_≡_};
 ghost use Prim.Native.Nat.{_≤_};
 ghost use lib.ListN.{length, take};
 ghost use Rattle.book.specs.Reading.{checkDef, bookOf};
+ghost use Rattle.book.specs.Outline.{Placed};
 ghost use Rattle.sets.specs.Stepping.{closeBy};
 ghost use Rattle.sets.specs.Numbering.{idx};
-ghost use Rattle.sets.specs.Sides.{tableOf, SideMasks, Clear, Numbered};
+ghost use Rattle.sets.specs.Sides.{sideTable, SideMasks, Clear, Numbered};
 
 // The number of the set among the first `count`, or `count` where it is not met before.
 fn find(sets: &[u64], count: usize, set: u64) -> usize
@@ -54,6 +55,7 @@ fn number_of(
 // would pass it.
 pub(crate) fn number_sets(
     book: &[u8],
+    places: &[u16; book::STATES],
     lefts: u64,
     rights: u64,
     starts: &[u64; 16],
@@ -63,9 +65,10 @@ pub(crate) fn number_sets(
     sets: &mut [u64],
 ) -> usize
     requires { ⌜ checkDef (now book) .reply ≡ 0 ⌝ }
+    requires { ⌜ Placed (bookOf (now book) .states) (now places) ⌝ }
     requires { ⌜ SideMasks (bookOf (now book)) lefts rights (now starts) (now ends) ⌝ }
     requires { ⌜ Clear (now rows) (now sets) ⌝ }
-    ensures { λ r. ⌜ Numbered (tableOf (bookOf (now (book .entry))) back) r (now (rows .exit)) (now (sets .exit)) ⌝ }
+    ensures { λ r. ⌜ Numbered (sideTable (bookOf (now (book .entry))) back) r (now (rows .exit)) (now (sets .exit)) ⌝ }
 {
     sets[0] = super::stepping::close(lefts, rights, starts, ends, back, 0);
     let mut count: usize = 1;
@@ -76,7 +79,7 @@ pub(crate) fn number_sets(
         if k == count {
             break count;
         }
-        let row = super::stepping::side_row(book, back, sets[k]);
+        let row = super::stepping::side_row(book, places, back, sets[k]);
         let mut symbol: u8 = 0;
         while symbol < book::SYMBOLS {
             let step = row.each[symbol as usize];

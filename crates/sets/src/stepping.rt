@@ -1,18 +1,18 @@
-// The step of a set, read from the book's bytes; no arc is copied. A walk steps a set of focus states on one symbol: trailing zeros pick the
-// next state, and the arcs of a state stand between its own record and the end of its rule. BUILD steps a set on all symbols in one reading of
-// the book, along the arcs or against them. What is public here serves walks over tapes, whose callers have CHECK's reply and the places or masks
-// of the book already: hence a `requires`.
+// The step of a set, read from the book's bytes; no arc is copied. Trailing zeros pick the next state of the set, which falls by that bit until
+// it is empty; the arcs of a state stand between its own record and the end of its rule, and the records of a rule are read once for all its
+// states in the set. A walk steps a set of focus states on one symbol; BUILD steps a set on all symbols at once, along the arcs or against
+// them. What is public here serves walks over tapes, whose callers have CHECK's reply and the places of the book already: hence a `requires`.
 ghost use mathlib.Core.Path.{_≡_};
-ghost use mathlib.Core.Bool.{true, cond};
-ghost use Prim.Native.Nat.{_+_, _<_, _≤_, _^_};
-ghost use lib.Dec.{eqb};
+ghost use mathlib.Core.Bool.{true};
+ghost use Prim.Native.Nat.{_+_, _<_, _≤_};
 ghost use lib.ListN.{length};
 ghost use Rattle.book.specs.Format.{byte, symbolCount, mostRules, mostStates};
 ghost use Rattle.book.specs.Reading.{arcAt, checkDef, bookOf};
 ghost use Rattle.book.specs.Language.{stateOf};
 ghost use Rattle.book.specs.Outline.{Placed};
 ghost use Rattle.sets.specs.Focus.{focusStep, focusNext};
-ghost use Rattle.sets.specs.Stepping.{hopFold, isEnd, stepArcs, arcBytes, ArcStands, SweptAll, between, Added, Stepped, joins, gather, sideArcs, closeBy};
+ghost use Rattle.sets.specs.Stepping.{hopFold, isEnd, stepArcs, arcBytes, ArcStands, SweptAll, between, Added, SweptRow, Stepped};
+ghost use Rattle.sets.specs.Stepping.{joins, gather, sideArcs, closeBy};
 
 // Where an arc's record names its two states.
 const FROM: usize = 1;
@@ -47,28 +47,31 @@ fn sweep(book: &[u8], place: usize, state: usize, set: u64, symbol: u8) -> Swept
     requires { ⌜ checkDef (now book) .reply ≡ 0 ⌝ }
     requires { ⌜ place ≡ stateOf (bookOf (now book)) state .place ⌝ }
     requires { ⌜ 0 < place ⌝ }
-    ensures { λ r. ⌜ SweptAll (bookOf (now (book .entry)) .arcs) state set symbol r ⌝ }
+    ensures { λ r. ⌜ SweptAll 1 4 (bookOf (now (book .entry)) .arcs) state set symbol (r .out) (r .next) ⌝ }
 {
     let mut out: u64 = 0;
     let mut at = place + 3;
     let mut next = state + 1;
     loop {
         let kind = book[at];
-        if kind == 3 {
-            out = out | hop_of(book, at, set, symbol);
-            at += 5;
-        } else if kind == 2 {
-            next += 1;
-            at += 3;
-        } else {
-            return Swept { out, next };
+        match kind {
+            book::ARC => {
+                out = out | hop_of(book, at, set, symbol);
+                at += 5;
+            }
+            book::STATE => {
+                next += 1;
+                at += 3;
+            }
+            book::RULE | book::END => return Swept { out, next },
+            0 | 5..=255 => return Swept { out, next }, // no such record is in an accepted book
         }
     }
 }
 
 // The step of a set along the arcs, lowest state first: the records of a rule are read when its first state of the set is picked, for
 // all of them. An arc is read only from a book that CHECK accepted; the places of its states are found once and lent.
-pub fn focus_step(book: &[u8], places: &[u16; 64], set: u64, symbol: u8) -> u64
+pub fn focus_step(book: &[u8], places: &[u16; book::STATES], set: u64, symbol: u8) -> u64
     requires { ⌜ checkDef (now book) .reply ≡ 0 ⌝ }
     requires { ⌜ Placed (bookOf (now book) .states) (now places) ⌝ }
     ensures { λ r. ⌜ r ≡ focusStep (bookOf (now (book .entry))) set symbol ⌝ }
@@ -148,38 +151,82 @@ fn add_arc(
     }
 }
 
-// One reading of the book gives the steps of a set on all symbols.
-fn step_row(book: &[u8], source: usize, target: usize, set: u64) -> Row
+// The same records as `sweep` reads, on all symbols and in either direction: what they add to the row of the set. The number of the first state past
+// them comes back.
+fn sweep_row(
+    book: &[u8],
+    place: usize,
+    state: usize,
+    source: usize,
+    target: usize,
+    set: u64,
+    row: &mut [u64; super::ROW],
+) -> usize
     requires { ⌜ checkDef (now book) .reply ≡ 0 ⌝ }
+    requires { ⌜ place ≡ stateOf (bookOf (now book)) state .place ⌝ }
+    requires { ⌜ 0 < place ⌝ }
     requires { ⌜ (isEnd source ≡ true) × (isEnd target ≡ true) ⌝ }
-    ensures { λ r. ⌜ Stepped (stepArcs source target (bookOf (now (book .entry)) .arcs) set) (r .each) ⌝ }
+    requires { ⌜ length (now row) ≡ symbolCount ⌝ }
+    ensures { λ r. ⌜ SweptRow source target (bookOf (now (book .entry)) .arcs) state set r (now (row .entry)) (now (row .exit)) ⌝ }
 {
-    let mut row = [0u64; super::ROW];
-    let mut at: usize = 0;
+    let mut at = place + 3;
+    let mut next = state + 1;
     loop {
         let kind = book[at];
-        if kind == 3 {
-            add_arc(book, at, source, target, set, &mut row);
-            at += 5;
-        } else if kind == 2 {
-            at += 3;
-        } else if kind == 1 {
-            at += 10;
-        } else {
-            return Row { each: row };
+        match kind {
+            book::ARC => {
+                add_arc(book, at, source, target, set, row);
+                at += 5;
+            }
+            book::STATE => {
+                next += 1;
+                at += 3;
+            }
+            book::RULE | book::END => return next,
+            0 | 5..=255 => return next, // no such record is in an accepted book
         }
     }
 }
 
-// The row of a set on either side, `back` for the right one: along the arcs on the left, against them on the right.
-pub(crate) fn side_row(book: &[u8], back: bool, set: u64) -> Row
+// The steps of a set on all symbols, lowest state first, as `focus_step` has them on one.
+fn step_row(
+    book: &[u8],
+    places: &[u16; book::STATES],
+    source: usize,
+    target: usize,
+    set: u64,
+) -> Row
     requires { ⌜ checkDef (now book) .reply ≡ 0 ⌝ }
+    requires { ⌜ Placed (bookOf (now book) .states) (now places) ⌝ }
+    requires { ⌜ (isEnd source ≡ true) × (isEnd target ≡ true) ⌝ }
+    ensures { λ r. ⌜ Stepped (stepArcs source target (bookOf (now (book .entry)) .arcs) set) (r .each) ⌝ }
+{
+    let mut row = [0u64; super::ROW];
+    let mut left = set;
+    let mut done: usize = 0;
+    while left != 0 {
+        let state = u64::trailing_zeros(left) as usize;
+        left = left & (left - 1);
+        if done <= state { // its rule has not been read
+            let place = places[state] as usize;
+            if place != 0 {
+                done = sweep_row(book, place, state, source, target, set, &mut row);
+            }
+        }
+    }
+    Row { each: row }
+}
+
+// The row of a set on either side, `back` for the right one: along the arcs on the left, against them on the right.
+pub(crate) fn side_row(book: &[u8], places: &[u16; book::STATES], back: bool, set: u64) -> Row
+    requires { ⌜ checkDef (now book) .reply ≡ 0 ⌝ }
+    requires { ⌜ Placed (bookOf (now book) .states) (now places) ⌝ }
     ensures { λ r. ⌜ Stepped (sideArcs back (bookOf (now (book .entry)) .arcs) set) (r .each) ⌝ }
 {
     if back {
-        return step_row(book, TO, FROM, set);
+        return step_row(book, places, TO, FROM, set);
     }
-    step_row(book, FROM, TO, set)
+    step_row(book, places, FROM, TO, set)
 }
 
 // What becomes of such a step. On the left the left starts (`lefts`) are added, which begin anew at each position; on the right the right
@@ -204,7 +251,13 @@ pub(crate) fn close(
 
 // The focus states one symbol on, those that the right set there holds. An arc is read only from a book that CHECK accepted; the places
 // of its states are found once and lent.
-pub fn focus_next(book: &[u8], places: &[u16; 64], set: u64, symbol: u8, right: u64) -> u64
+pub fn focus_next(
+    book: &[u8],
+    places: &[u16; book::STATES],
+    set: u64,
+    symbol: u8,
+    right: u64,
+) -> u64
     requires { ⌜ checkDef (now book) .reply ≡ 0 ⌝ }
     requires { ⌜ Placed (bookOf (now book) .states) (now places) ⌝ }
     ensures { λ r. ⌜ r ≡ focusNext (bookOf (now (book .entry))) set symbol right ⌝ }

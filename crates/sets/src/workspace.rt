@@ -4,9 +4,10 @@ ghost use mathlib.Core.List.{[], _++_};
 ghost use Prim.Native.Nat.{_+_, _≤_};
 ghost use lib.ListN.{length, drop};
 ghost use Rattle.book.specs.Reading.{checkDef, bookOf};
+ghost use Rattle.book.specs.Outline.{Placed};
 ghost use Rattle.sets.specs.Numbering.{mostSets, pairs, pad};
 ghost use Rattle.sets.specs.Workspace.{rowBytes, setWords};
-ghost use Rattle.sets.specs.Sides.{tableOf, SideMasks, Numbered, NumberedAt};
+ghost use Rattle.sets.specs.Sides.{sideTable, SideMasks, Numbered, NumberedAt};
 
 fn clear_rows(rows: &mut [u8])
     ensures { λ _. ⌜ now (rows .exit) ≡ pad (length (now (rows .entry))) [] ⌝ }
@@ -41,6 +42,7 @@ pub(crate) fn clear(rows: &mut [u8], sets: &mut [u64])
 // One side, into its own rows and sets, whatever stood there before.
 fn number_side(
     book: &[u8],
+    places: &[u16; book::STATES],
     lefts: u64,
     rights: u64,
     starts: &[u64; 16],
@@ -50,18 +52,20 @@ fn number_side(
     sets: &mut [u64],
 ) -> usize
     requires { ⌜ checkDef (now book) .reply ≡ 0 ⌝ }
+    requires { ⌜ Placed (bookOf (now book) .states) (now places) ⌝ }
     requires { ⌜ SideMasks (bookOf (now book)) lefts rights (now starts) (now ends) ⌝ }
     requires { ⌜ (length (now rows) ≡ pairs) × (length (now sets) ≡ mostSets) ⌝ }
-    ensures { λ r. ⌜ Numbered (tableOf (bookOf (now (book .entry))) back) r (now (rows .exit)) (now (sets .exit)) ⌝ }
+    ensures { λ r. ⌜ Numbered (sideTable (bookOf (now (book .entry))) back) r (now (rows .exit)) (now (sets .exit)) ⌝ }
 {
     clear_rows(rows);
     clear_sets(sets);
-    super::numbering::number_sets(book, lefts, rights, starts, ends, back, rows, sets)
+    super::numbering::number_sets(book, places, lefts, rights, starts, ends, back, rows, sets)
 }
 
 // One side, at its place in the workspace.
 pub(crate) fn number_part(
     book: &[u8],
+    places: &[u16; book::STATES],
     lefts: u64,
     rights: u64,
     starts: &[u64; 16],
@@ -73,12 +77,14 @@ pub(crate) fn number_part(
     set: usize,
 ) -> usize
     requires { ⌜ checkDef (now book) .reply ≡ 0 ⌝ }
+    requires { ⌜ Placed (bookOf (now book) .states) (now places) ⌝ }
     requires { ⌜ SideMasks (bookOf (now book)) lefts rights (now starts) (now ends) ⌝ }
     requires { ⌜ (row + pairs ≤ length (now rows)) × (set + mostSets ≤ length (now sets)) ⌝ }
-    ensures { λ r. ⌜ NumberedAt (tableOf (bookOf (now (book .entry))) back) r row set (now (rows .entry)) (now (sets .entry)) (now (rows .exit)) (now (sets .exit)) ⌝ }
+    ensures { λ r. ⌜ NumberedAt (sideTable (bookOf (now (book .entry))) back) r row set (now (rows .entry)) (now (sets .entry)) (now (rows .exit)) (now (sets .exit)) ⌝ }
 {
     number_side(
         book,
+        places,
         lefts,
         rights,
         starts,

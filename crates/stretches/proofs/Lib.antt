@@ -12,6 +12,8 @@ pub mod Replaced
 pub mod Lengths
 pub mod Batches
 pub mod Kept
+pub mod Origins
+pub mod One
 pub mod Counts
 pub mod NoEmpty
 pub mod Last

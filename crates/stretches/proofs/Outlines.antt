@@ -1,27 +1,18 @@
--- The outline of an accepted book as it is filled: the masks, kind after kind, and the places of the words as far as the walk over the
--- records has come. Assumes nothing.
+-- The masks of an accepted book as they are put, kind after kind. Assumes nothing.
 use Prim.Native.Nat.{ℕ, _+_, _≤_, _<_}
-use mathlib.Core.Path.{_≡_, refl, sym, ap, _∙_, subst}
+use mathlib.Core.Path.{_≡_, refl, sym, ap, _∙_}
 use mathlib.Core.Logic.{_≢_}
-use mathlib.Core.List.{List, []}
+use mathlib.Core.List.{List}
 use native.Mathlib.Omega.{arith}
 use native.Mathlib.Decide.{ℕ-discrete}
 use native.Mathlib.Nat.{zero-add}
-use borrow.Author.Tests.{ltb-false}
-use lib.Dec.{leb, ltb}
-use lib.ListN.{length, getD, set, length-set, length-append}
+use lib.ListN.{length, getD, set, length-set}
 use lib.Seq.{getD-set-same, getD-set-other}
-use Rattle.book.specs.Format.{mostRules, byte, ruleReply}
-use Rattle.book.specs.Reading.{State, Book, wordAt, withRecord}
+use Rattle.book.specs.Format.{mostRules}
+use Rattle.book.specs.Reading.{State, Book}
 use Rattle.book.specs.Sound.{Sound}
 use Rattle.book.specs.Outline.{allMask, EachMask}
-use Rattle.book.proofs.Laws.{size-rule}
-use Rattle.book.proofs.Passed.{test-passed}
-use Rattle.book.proofs.Sound.{at-snoc, kind-rule}
-use Rattle.book.proofs.Walk.{Walk, walk-passed, words-rule, words-same}
-use Rattle.stretches.specs.Ready.{maskCount, KindPut, Tests, WordAt, WordsAt}
-
--- ---- the masks of one kind
+use Rattle.stretches.specs.Ready.{maskCount, KindPut, Tests}
 
 -- the first n of them stand from `at` on
 pub record Putting (each : List ℕ) (at : ℕ) (l₀ l : List ℕ) (n : ℕ) : Type 0 where
@@ -82,32 +73,3 @@ module _ (b : Book) (l₀ l₁ l₂ l₃ l₄ : List ℕ) (starts accepts : ℕ)
     any-first = getD-set-other (set l₄ 64 starts) 65 64 accepts 0 (λ e. omega arith) ∙ getD-set-same l₄ 64 starts 0 (omega (arith, same)) ∙ e;
     any-accept = getD-set-same (set l₄ 64 starts) 65 accepts 0 (omega (arith, same, length-set l₄ 64 starts)) ∙ f;
   }
-
--- ---- the words
-
--- the array as far as the walk has come
-pub record Wording (book : List ℕ) (n : ℕ) (l : List ℕ) (words : List (List ℕ)) : Type 0 where
-  pub count : n ≡ length words
-  pub each : WordsAt book words l
-  pub long : length l ≡ mostRules
-
-pub wording-rule : (book : List ℕ) (at n : ℕ) (l : List ℕ) (b B : Book) → Walk book at b B → byte book at ≡ 1 → n < mostRules → Wording book n l (b .words)
-    → Wording book (n + 1) (set l n at) (withRecord book at b .words)
-unfolding ruleReply
-wording-rule book at n l b B w k h was = rw (words-rule book at b k) (record {
-  count = rw length-append (omega (arith, was .count));
-  each = at-snoc (λ r x. WordAt book x (getD (set l n at) r 0)) (b .words) (wordAt book at) []
-      (λ r g. subst (WordAt book (getD (b .words) r [])) (sym (getD-set-other l n r at 0 (λ e. omega (arith, was .count)))) (was .each r g))
-      (rw (sym (was .count)) (subst (WordAt book (wordAt book at)) (sym (getD-set-same l n at 0 (omega (arith, was .long)))) here));
-  long = length-set l n at ∙ was .long;
-})
-  where
-    here : WordAt book (wordAt book at) at
-    here =
-        let p = walk-passed book at b B w in
-        let a = test-passed (leb 16 (length (b .words))) 2 _ (kind-rule book at b (p .kind) k) in
-        let c = test-passed (ltb 8 (byte book (at + 1))) 4 _ (a .1) in
-        record { room = record { whole = omega (arith, p .whole, size-rule k); short = ltb-false 8 (byte book (at + 1)) (c .0) }; is = refl }
-
-pub wording-other : (book : List ℕ) (at n : ℕ) (l : List ℕ) (b : Book) → (byte book at ≡ 1 → ⊥) → Wording book n l (b .words) → Wording book n l (withRecord book at b .words)
-wording-other book at n l b f was = rw (words-same book at b f) was

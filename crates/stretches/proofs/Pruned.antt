@@ -15,7 +15,7 @@ use Rattle.sets.specs.Focus.{focusAt, focusFirst, focusNext, meetsAccept, meets
 use Rattle.sets.specs.Numbering.{mostSets}
 use Rattle.sets.proofs.Meaning.{focus-first, focus-next}
 use Rattle.stretches.specs.Candidates.{candidate}
-use Rattle.stretches.specs.Ready.{Rights}
+use Rattle.stretches.specs.Ready.{RightSets}
 use Rattle.stretches.specs.Position.{hits}
 use Rattle.stretches.proofs.CandidateSets.{candidate-test, dead}
 use Rattle.stretches.proofs.Scans.{sound-of}
@@ -25,7 +25,7 @@ pub record Pruned (b : Book) (t : List ℕ) (i j set : ℕ) : Type 0 where
   pub high : j ≤ length t
   pub states : set ≡ focusAt b t i j
 
-module _ (book tape sets scratch : List ℕ) (seen : Rights book tape sets scratch) (i : ℕ) where
+module _ (book tape sets scratch : List ℕ) (seen : RightSets book tape sets scratch) (i : ℕ) where
   pub pruned-start : (L R F : ℕ) → i ≤ length tape → L ≡ leftAt (bookOf book) tape i → R ≡ getD sets (mostSets + getD scratch i 0) 0 → F ≡ focusFirst (bookOf book) L R
       → Pruned (bookOf book) tape i i F
   pruned-start L R F k e f g = record { low = omega arith; high = k; states = rw (g, e, f, seen .right i k) (sym (focus-first (bookOf book) tape i)) }

@@ -20,8 +20,8 @@ use Rattle.sets.specs.Focus.{focusAt, focusFirst, focusNext, meetsAccept, meets
 use Rattle.sets.specs.Numbering.{mostSets}
 use Rattle.sets.proofs.Meaning.{focus-first, focus-next}
 use Rattle.stretches.specs.Candidates.{candidate, someRule, longest, ruleOf, firstOf, lastOf, rulesOf}
-use Rattle.stretches.specs.Ready.{Ready, Rights}
-use Rattle.stretches.specs.Position.{hits, noRule, hitRule, Takes}
+use Rattle.stretches.specs.Ready.{Ready, RightSets}
+use Rattle.stretches.specs.Position.{hits, noRule, hitRule, TakenHere}
 use Rattle.stretches.proofs.NoEmpty.{NoEmpty, no-empty}
 use Rattle.stretches.proofs.First.{first-none, first-hit, first-miss}
 use Rattle.stretches.proofs.CandidateSets.{scan-first, scan-next, scan-end, scan-dead, test, some-test, first-test}
@@ -96,10 +96,10 @@ module _ (b : Book) (o : Sound b) (t : List ℕ) where
 pub sound-of : (book : List ℕ) → checkDef book .reply ≡ 0 → Sound (bookOf book)
 sound-of book h = accepted-sound book (bookOf book) (is-accepted book h)
 
-pub rights-of : (book tape rows sets scratch : List ℕ) → Ready book tape rows sets scratch → Rights book tape sets scratch
+pub rights-of : (book tape rows sets scratch : List ℕ) → Ready book tape rows sets scratch → RightSets book tape sets scratch
 rights-of book tape rows sets scratch r = record { accepted = r .accepted; sets-room = r .sets-room; scratch-room = r .scratch-room; right = r .right }
 
-module _ (book tape sets scratch : List ℕ) (seen : Rights book tape sets scratch) (i : ℕ) where
+module _ (book tape sets scratch : List ℕ) (seen : RightSets book tape sets scratch) (i : ℕ) where
   sound : Sound (bookOf book)
   sound = sound-of book (seen .accepted)
 
@@ -121,8 +121,8 @@ module _ (book tape sets scratch : List ℕ) (seen : Rights book tape sets scrat
       pub walk-miss : r ≡ noRule → Scan (bookOf book) tape i (j + 1) X end rule
       walk-miss h = rw (add-one, f) (scan-miss (bookOf book) sound tape i j set end rule was inside R right-here (sym rule-here ∙ h))
 
-    pub walk-dead : set ≡ 0 → Takes (rulesIn book) tape i end rule
+    pub walk-dead : set ≡ 0 → TakenHere (rulesIn book) tape i end rule
     walk-dead z = record { far = scan-dead (bookOf book) sound tape i j end (was .low) (was .high) (sym (was .states) ∙ z) (was .best); who = was .who }
 
-    pub walk-end : length tape ≤ j → Takes (rulesIn book) tape i end rule
+    pub walk-end : length tape ≤ j → TakenHere (rulesIn book) tape i end rule
     walk-end z = record { far = stop-end (bookOf book) sound tape i j set end rule was z; who = was .who }

@@ -16,9 +16,13 @@ pub record Line : Type 0 where
   pub deciding : ℕ
 
 -- "Verdicts: 0 taken; 1 shorter than the taken one at the same start; 2 same stretch, lower rule taken; 3 start strictly inside a taken
--- stretch", of the candidate from i to j of the rule r, where d stands over i
+-- stretch", of the candidate from i to j of the rule r, where the stretch from start to end with its rule decides
+abbrev pub verdictBy : (i j r start end rule : ℕ) → ℕ
+verdictBy i j r start end rule = cond (ltb start i) 3 (cond (ltb j end) 1 (cond (ltb rule r) 2 0))
+
+-- where d stands over i
 abbrev pub verdictOf : Rules → List ℕ → ℕ → ℕ → ℕ → Stretch → ℕ
-verdictOf b t i j r d = cond (ltb (d .start) i) 3 (cond (ltb j (d .end)) 1 (cond (ltb (ruleOf b t (d .start) (d .end)) r) 2 0))
+verdictOf b t i j r d = verdictBy i j r (d .start) (d .end) (ruleOf b t (d .start) (d .end))
 
 -- "The deciding start is that of the taken stretch, its own for 0"
 abbrev pub lineFor : Rules → List ℕ → ℕ → ℕ → ℕ → Stretch → Line

@@ -26,7 +26,7 @@ unfoldable pub hitRule : Book → ℕ → ℕ → ℕ
 hitRule b X R = firstOf (hits b X R) (rulesOf (rules b)) noRule
 
 -- what is taken at a free position i: where it ends, i itself if nothing is taken, and its rule
-pub record Takes (b : Rules) (t : List ℕ) (i end rule : ℕ) : Type 0 where
+pub record TakenHere (b : Rules) (t : List ℕ) (i end rule : ℕ) : Type 0 where
   pub far : end ≡ longest b t i
   pub who : rule ≡ ruleOf b t i end
 

@@ -2,12 +2,12 @@
 -- say which set stands where.
 use Prim.Native.Nat.{ℕ, _+_, _*_, _≤_, _<_}
 use mathlib.Core.Path.{_≡_}
-use mathlib.Core.List.{List, []}
+use mathlib.Core.List.{List}
 use lib.ListN.{length, getD}
-use Rattle.book.specs.Format.{symbolCount, mostRules, longestWord, byte}
-use Rattle.book.specs.Reading.{State, Book, wordAt, checkDef, bookOf}
+use Rattle.book.specs.Format.{symbolCount, mostRules}
+use Rattle.book.specs.Reading.{State, Book, checkDef, bookOf}
 use Rattle.book.specs.Sound.{Sound}
-use Rattle.book.specs.Outline.{Placed, ruleMask, allMask}
+use Rattle.book.specs.Outline.{Placed, WordsAt, ruleMask, allMask}
 use Rattle.sets.specs.Sets.{leftFirst, leftNext, rightAt}
 use Rattle.sets.specs.Focus.{focusStep}
 use Rattle.sets.specs.Numbering.{mostSets}
@@ -61,20 +61,6 @@ pub record Outlined (b : Book) (rules : ℕ) (places masks : List ℕ) : Type 0 
   pub placed : Placed (b .states) places
   pub tests : Tests b rules masks
 
--- a rule's record stands at `at`, whole, with its word's length
-pub record WordRoom (book : List ℕ) (at : ℕ) : Type 0 where
-  pub whole : at + 10 ≤ length book
-  pub short : byte book (at + 1) ≤ longestWord
-
--- that of the word w
-pub record WordAt (book w : List ℕ) (at : ℕ) : Type 0 where
-  pub room : WordRoom book at
-  pub is : w ≡ wordAt book at
-
--- each rule's record stands where the array says
-abbrev pub WordsAt : List ℕ → List (List ℕ) → List ℕ → Type 0
-WordsAt book words places = (r : ℕ) → r < length words → WordAt book (getD words r []) (getD places r 0)
-
 -- what the passes over an accepted book are lent of it
 pub record Lent (book : List ℕ) (rules : ℕ) (places masks words : List ℕ) : Type 0 where
   pub outlined : Outlined (bookOf book) rules places masks
@@ -96,7 +82,7 @@ pub record Ready (book tape rows sets scratch : List ℕ) : Type 0 where
   pub left-next : (k a : ℕ) → k < leftCount book → a < symbolCount → getD sets (getD rows (symbolCount * k + a) 0) 0 ≡ leftNext (bookOf book) (getD sets k 0) a
 
 -- of that, what the walk from one position stands on
-pub record Rights (book tape sets scratch : List ℕ) : Type 0 where
+pub record RightSets (book tape sets scratch : List ℕ) : Type 0 where
   pub accepted : checkDef book .reply ≡ 0
   pub sets-room : setWords ≤ length sets
   pub scratch-room : length tape < length scratch

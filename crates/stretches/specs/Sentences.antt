@@ -2,12 +2,13 @@
 -- "No start is taken twice" is request 5's (document 02): without empty candidates it says nothing.
 use Prim.Native.Nat.{ℕ, zero, suc, _+_, _-_, _≤_, _<_}
 use mathlib.Core.List.{List, [], _∷_, _++_, List·Memᴰ}
-use mathlib.Core.Bool.{Bool, true, _&&_, cond}
+use mathlib.Core.Bool.{Bool, true, false, _&&_, cond}
 use mathlib.Core.Path.{_≡_}
 use mathlib.Core.Logic.{_↔_, _≢_}
 use lib.Dec.{T, eqb, leb, ltb}
-use lib.ListN.{length, getD}
-use Rattle.book.specs.Language.{Rules, any}
+use lib.ListN.{length, getD, drop, replicate}
+use lib.Seq.{slice}
+use Rattle.book.specs.Language.{Rules, any, upFrom}
 use Rattle.stretches.specs.Candidates.{Stretch, candidate, ruleOf, taken}
 use Rattle.stretches.specs.Output.{Mark, keptMarks, wordMarks, ruleWord, written}
 use Rattle.stretches.specs.Account.{Line, each}
@@ -150,3 +151,26 @@ pub data Shuffled : List Mark → List Mark → List Mark → Type 0 where
   none : Shuffled [] [] []
   left : {x : Mark} {xs ys zs : List Mark} → Shuffled xs ys zs → Shuffled (x ∷ xs) ys (x ∷ zs)
   right : {y : Mark} {xs ys zs : List Mark} → Shuffled xs ys zs → Shuffled xs (y ∷ ys) (y ∷ zs)
+
+-- 4. the output's symbols and its origins, each as a list of its own
+
+-- "The output replaces each taken stretch by its rule's word and keeps the rest", from position a on
+abbrev pub symbolsFrom : Rules → List ℕ → ℕ → List Line → List ℕ
+symbolsFrom b t a [] = drop a t
+symbolsFrom b t a (l ∷ ls) = slice a (l .start) t ++ (ruleWord b (l .rule) ++ symbolsFrom b t (l .end) ls)
+
+-- "every symbol of a replacement the start of the stretch": the origins of n symbols that stand for the stretch from i to j
+abbrev pub wordOrigins : ℕ → ℕ → ℕ → List ℕ
+wordOrigins n i j = replicate n i
+
+-- "a kept symbol its own position", and the words in their places, from position a on
+abbrev pub originsFrom : Rules → List ℕ → ℕ → List Line → List ℕ
+originsFrom b t a [] = upFrom a (length t - a)
+originsFrom b t a (l ∷ ls) =
+    upFrom a (l .start - a) ++ (wordOrigins (length (ruleWord b (l .rule))) (l .start) (l .end) ++ originsFrom b t (l .end) ls)
+
+-- what one output symbol is: a symbol that no taken stretch covers, with its own position; or one of the word of a taken stretch, with that
+-- stretch's start
+pub data Traced (b : Rules) (t : List ℕ) (m : Mark) : Type 0 where
+  kept : m .origin < length t → covered (taken b t) (m .origin) ≡ false → m .symbol ≡ getD t (m .origin) 0 → Traced b t m
+  replaced : (j : ℕ) → Takes b t (m .origin) j → List·Memᴰ (m .symbol) (ruleWord b (ruleOf b t (m .origin) j)) → Traced b t m

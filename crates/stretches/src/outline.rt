@@ -1,12 +1,11 @@
-// What the forward passes take once from an accepted book: where each state's record stands, the masks that the walk tests with, and
-// where each rule's word stands.
+// What the forward passes take once from an accepted book: where each state's record stands, and the masks that the walk tests with.
 ghost use mathlib.Core.Path.{_≡_};
 ghost use Prim.Native.Nat.{_+_, _≤_};
 ghost use lib.ListN.{length};
 ghost use Rattle.book.specs.Format.{mostRules};
 ghost use Rattle.book.specs.Reading.{checkDef, bookOf};
 ghost use Rattle.book.specs.Outline.{allMask};
-ghost use Rattle.stretches.specs.Ready.{maskCount, KindPut, Outlined, WordsAt};
+ghost use Rattle.stretches.specs.Ready.{maskCount, KindPut, Outlined};
 
 // The masks of the rules stand one kind after the other, sixteen a kind; then those of all rules.
 pub const LEFT_ACCEPTS: usize = 0;
@@ -26,11 +25,6 @@ pub const MASKS: usize = 66;
 pub struct Outline {
     pub places: [u16; book::STATES],
     pub masks: [u64; MASKS],
-}
-
-// The offset of each rule's record.
-pub struct Words {
-    pub places: [u16; book::RULES],
 }
 
 // Puts the masks of one part and flag, sixteen from `at` on, and hands back that of all rules.
@@ -64,27 +58,4 @@ pub fn outline_of(book: &[u8]) -> Outline
     let at = book::outline::place_states(book);
     let places = at.places;
     Outline { places, masks }
-}
-
-// Its callers have CHECK's reply.
-pub fn place_words(book: &[u8]) -> Words
-    requires { ⌜ checkDef (now book) .reply ≡ 0 ⌝ }
-    ensures { λ r. ⌜ WordsAt (now (book .entry)) (bookOf (now (book .entry)) .words) (r .places) ⌝ }
-{
-    let mut out = Words {
-        places: [0u16; book::RULES],
-    };
-    let mut rules = 0;
-    let mut at = 0;
-    loop {
-        let kind = book[at];
-        if kind == 4 {
-            return out;
-        }
-        if kind == 1 {
-            out.places[rules] = at as u16;
-            rules += 1;
-        }
-        at += book::record_size(kind);
-    }
 }

@@ -7,38 +7,22 @@ use crate::outline::FOCUS_STARTS;
 use crate::outline::LEFT_ACCEPTS;
 use crate::outline::MASKS;
 use crate::outline::RIGHT_STARTS;
+use crate::steps::SLOTS;
+use crate::steps::STEPS;
+use crate::steps::remembered;
+use sets::entries::right_set;
 ghost use mathlib.Core.Path.{_≡_};
-ghost use Prim.Native.Nat.{_+_, _*_, _≤_, _<_};
-ghost use lib.ListN.{length, getD};
-ghost use Rattle.book.specs.Format.{symbolCount};
-ghost use Rattle.book.specs.Reading.{checkDef, bookOf};
+ghost use Prim.Native.Nat.{_≤_, _<_};
+ghost use lib.ListN.{length};
+ghost use Rattle.book.specs.Reading.{bookOf};
 ghost use Rattle.book.specs.Language.{rulesIn};
-ghost use Rattle.book.specs.Outline.{Placed};
 ghost use Rattle.sets.specs.Sets.{leftAt};
-ghost use Rattle.sets.specs.Focus.{focusFirst, openedBy, focusStep};
-ghost use Rattle.sets.specs.Numbering.{mostSets};
-ghost use Rattle.sets.specs.Workspace.{rowBytes, setWords};
-ghost use Rattle.stretches.specs.Ready.{Tests, Outlined, Rights, slotCount, Remembers};
-ghost use Rattle.stretches.specs.Position.{hits, hitRule, Takes};
+ghost use Rattle.sets.specs.Focus.{focusFirst, openedBy};
+ghost use Rattle.stretches.specs.Ready.{Tests, Outlined, RightSets, Remembers};
+ghost use Rattle.stretches.specs.Position.{hits, hitRule, TakenHere};
 
 // The number that is no rule's.
 pub const NO_RULE: usize = book::RULES;
-
-// The right set at position j.
-pub fn right_set(sets: &[u64], scratch: &[u8], j: usize) -> u64
-    requires { ⌜ (j < length (now scratch)) × (setWords ≤ length (now sets)) ⌝ }
-    ensures { λ r. ⌜ r ≡ getD (now (sets .entry)) (mostSets + getD (now (scratch .entry)) j 0) 0 ⌝ }
-{
-    sets[sets::MOST_SETS + scratch[j] as usize]
-}
-
-// The number of the left set one symbol on.
-pub fn left_step(rows: &[u8], k: usize, symbol: u8) -> usize
-    requires { ⌜ (k < mostSets) × (symbol < symbolCount) × (rowBytes ≤ length (now rows)) ⌝ }
-    ensures { λ r. ⌜ r ≡ getD (now (rows .entry)) (symbolCount * k + symbol) 0 ⌝ }
-{
-    rows[symbol as usize + sets::ROW * k] as usize
-}
 
 // The focus starts of a rule, where its left context holds.
 fn opened(book: &[u8], masks: &[u64; MASKS], rules: usize, left: u64, rule: usize) -> u64
@@ -109,50 +93,6 @@ fn rule_hit(book: &[u8], masks: &[u64; MASKS], rules: usize, set: u64, right: u6
     NO_RULE
 }
 
-// How many steps of the focus a pass over a tape remembers: on real tapes the same few come again and again.
-pub const SLOTS: usize = 16;
-
-// The words of the remembered steps: the set before step k stands at k, and the set after it at AFTER + k. Its symbol stands beside them, in an
-// array of bytes. At first they are steps of the empty set.
-pub const STEPS: usize = SLOTS + SLOTS;
-
-const AFTER: usize = SLOTS;
-
-// Where the step of a set on a symbol is looked for, and put: sets with another lowest state, or on another symbol, seldom share a place.
-fn slot_of(set: u64, symbol: u8) -> usize
-    ensures { λ r. ⌜ r < slotCount ⌝ }
-{
-    (2 * u64::trailing_zeros(set) as usize + symbol as usize) % SLOTS
-}
-
-// The step of a set, remembered or computed.
-fn remembered(
-    book: &[u8],
-    places: &[u16; book::STATES],
-    steps: &mut [u64; STEPS],
-    symbols: &mut [u8; SLOTS],
-    set: u64,
-    symbol: u8,
-) -> u64
-    requires { ⌜ checkDef (now book) .reply ≡ 0 ⌝ }
-    requires { ⌜ Placed (bookOf (now book) .states) (now places) ⌝ }
-    requires { ⌜ Remembers (bookOf (now book)) (now steps) (now symbols) ⌝ }
-    ensures { λ r. ⌜ r ≡ focusStep (bookOf (now (book .entry))) set symbol ⌝ }
-    ensures { λ _. ⌜ Remembers (bookOf (now (book .entry))) (now (steps .exit)) (now (symbols .exit)) ⌝ }
-{
-    let slot = slot_of(set, symbol);
-    if steps[slot] == set {
-        if symbols[slot] == symbol {
-            return steps[AFTER + slot];
-        }
-    }
-    let after = sets::stepping::focus_step(book, places, set, symbol);
-    steps[slot] = set;
-    symbols[slot] = symbol;
-    steps[AFTER + slot] = after;
-    after
-}
-
 // What is taken at a free position: where the longest candidate ends, and its lowest rule; the position itself and 0 where there is none.
 pub struct Taken {
     pub end: usize,
@@ -173,10 +113,10 @@ pub fn taken_at(
     symbols: &mut [u8; SLOTS],
 ) -> Taken
     requires { ⌜ Outlined (bookOf (now book)) rules (now places) (now masks) ⌝ }
-    requires { ⌜ Rights (now book) (now tape) (now sets) (now scratch) ⌝ }
+    requires { ⌜ RightSets (now book) (now tape) (now sets) (now scratch) ⌝ }
     requires { ⌜ (from ≤ length (now tape)) × (left ≡ leftAt (bookOf (now book)) (now tape) from) ⌝ }
     requires { ⌜ Remembers (bookOf (now book)) (now steps) (now symbols) ⌝ }
-    ensures { λ r. ⌜ Takes (rulesIn (now (book .entry))) (now (tape .entry)) from (r .end) (r .rule) ⌝ }
+    ensures { λ r. ⌜ TakenHere (rulesIn (now (book .entry))) (now (tape .entry)) from (r .end) (r .rule) ⌝ }
     ensures { λ _. ⌜ Remembers (bookOf (now (book .entry))) (now (steps .exit)) (now (symbols .exit)) ⌝ }
 {
     let mut set = focus_first(book, masks, rules, left, right_set(sets, scratch, from));

@@ -1,12 +1,15 @@
 //! Accounts for SHOW: lines valid and damaged, whole and cut, and line numbers near and far.
 
 use crate::account::WORDS_A_LINE;
-use crate::call::{Call, Operation, LONGEST_TAPE};
+use crate::call::{Call, Operation};
 use crate::chance::Chance;
+
+/// A word of the account can name this tape's end, and one past it.
+const LONGEST_NAMED: usize = u16::MAX as usize - 1;
 
 pub fn show_call(chance: &mut Chance) -> Call {
     let mut call = Call::new(Operation::Show);
-    let length = chance.weighted(&[(1, 0), (1, 1), (20, 12), (2, 300), (1, LONGEST_TAPE)]);
+    let length = chance.weighted(&[(1, 0), (1, 1), (20, 12), (2, 300), (1, LONGEST_NAMED)]);
     let length = if length == 12 { chance.between(2, 12) } else { length };
     // SHOW does not look at symbols: bad ones are handed back too.
     call.tape = (0..length).map(|_| chance.byte()).collect();

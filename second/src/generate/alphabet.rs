@@ -1,5 +1,6 @@
 //! The few symbols that a book and its tape share, so that they meet often.
 
+use crate::book::{HIGHEST_SYMBOL, SYMBOLS};
 use crate::chance::Chance;
 
 #[derive(Clone)]
@@ -10,13 +11,13 @@ pub struct Alphabet {
 
 impl Alphabet {
     pub fn of(chance: &mut Chance) -> Alphabet {
-        let size = chance.weighted(&[(1, 1), (5, 2), (4, 3), (2, 4), (1, 16)]);
-        let lowest = if chance.one_in(2) { 0 } else { chance.below(17 - size) };
+        let size = chance.weighted(&[(1, 1), (5, 2), (4, 3), (2, 4), (1, SYMBOLS)]);
+        let lowest = if chance.one_in(2) { 0 } else { chance.below(SYMBOLS + 1 - size) };
         Alphabet { lowest: lowest as u8, highest: (lowest + size - 1) as u8 }
     }
 
     pub fn all() -> Alphabet {
-        Alphabet { lowest: 0, highest: 15 }
+        Alphabet { lowest: 0, highest: HIGHEST_SYMBOL }
     }
 
     pub fn symbol(&self, chance: &mut Chance) -> u8 {
@@ -30,7 +31,7 @@ impl Alphabet {
             (6, (one, one)),
             (3, (one.min(other), one.max(other))),
             (1, (self.lowest, self.highest)),
-            (1, (0, 15)),
+            (1, (0, HIGHEST_SYMBOL)),
         ])
     }
 }

@@ -1,14 +1,13 @@
 //! Lengths of lent buffers: exact, larger, short by one, empty.
 
 use crate::account::{self, WORDS_A_LINE};
-use crate::book;
+use crate::book::{self, HIGHEST_SYMBOL};
 use crate::call::{Call, Lengths, Operation};
-use crate::candidates::Candidates;
 use crate::chance::Chance;
 use crate::operations::LONGEST_TAPE;
 use crate::output::output;
 use crate::reading::Reading;
-use crate::taken::taken;
+use crate::stretches::Stretches;
 use crate::workspace;
 
 /// Lengths for a call whose book and tape are chosen.
@@ -35,14 +34,13 @@ pub fn lengths(call: &Call, chance: &mut Chance) -> Lengths {
 /// Symbols or words that an accepted call would need, so that the lengths tried lie around it.
 pub fn needed(call: &Call) -> usize {
     let Ok(book) = book::read(&call.book, Reading::TRUE) else { return 3 };
-    if call.tape.len() > LONGEST_TAPE || call.tape.iter().any(|symbol| *symbol > 15) {
+    if call.tape.len() > LONGEST_TAPE || call.tape.iter().any(|symbol| *symbol > HIGHEST_SYMBOL) {
         return call.tape.len().min(20);
     }
-    let candidates = Candidates::of(&book, &call.tape, Reading::TRUE);
-    let taken = taken(&candidates);
+    let stretches = Stretches::fast(&book, &call.tape);
     match call.operation {
-        Operation::Rewrite => output(&candidates, &taken).symbols.len(),
-        _ => WORDS_A_LINE * account::length(&candidates, &taken),
+        Operation::Rewrite => output(&book, &call.tape, &stretches.taken, Reading::TRUE).symbols.len(),
+        _ => WORDS_A_LINE * account::length(&stretches, Reading::TRUE),
     }
 }
 

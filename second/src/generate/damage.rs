@@ -1,5 +1,6 @@
 //! Damaged books: every reply from 1 to 8, several faults in one record, truncation and garbage.
 
+use crate::book::{HIGHEST_SYMBOL, SYMBOLS};
 use crate::chance::Chance;
 use crate::record::{self, ARC, BOTH, END, FOCUS, RULE, STATE};
 
@@ -84,8 +85,8 @@ fn near_state(chance: &mut Chance) -> u8 {
 }
 
 fn near_symbol(chance: &mut Chance) -> u8 {
-    let good = chance.below(16) as u8;
-    chance.weighted(&[(8, good), (2, 15), (2, 16), (1, 255)])
+    let good = chance.below(SYMBOLS) as u8;
+    chance.weighted(&[(8, good), (2, HIGHEST_SYMBOL), (2, HIGHEST_SYMBOL + 1), (1, 255)])
 }
 
 fn faulty_rule(chance: &mut Chance) -> Vec<u8> {
@@ -93,10 +94,10 @@ fn faulty_rule(chance: &mut Chance) -> Vec<u8> {
     let mut rule = record::rule(&[]);
     rule[1] = length;
     let used = (length as usize).min(record::LONGEST_WORD);
-    rule[2..2 + used].iter_mut().for_each(|symbol| *symbol = chance.below(16) as u8);
+    rule[2..2 + used].iter_mut().for_each(|symbol| *symbol = chance.below(SYMBOLS) as u8);
     match chance.below(4) {
         0 => rule[2 + chance.below(8)] = 1,
-        1 => rule[2 + chance.below(used.max(1))] = 16,
+        1 => rule[2 + chance.below(used.max(1))] = HIGHEST_SYMBOL + 1,
         2 => rule[9] = chance.byte(),
         _ => {}
     }
@@ -107,7 +108,9 @@ fn faulty_rule(chance: &mut Chance) -> Vec<u8> {
 fn spoil_field(record: &mut [u8], chance: &mut Chance) {
     if record.len() > 1 {
         let at = chance.between(1, record.len() - 1);
-        record[at] = chance.weighted(&[(2, 1), (2, 3), (1, 4), (1, 8), (2, 9), (1, 15), (4, 16), (1, 64), (1, 255)]);
+        let (highest, above) = (HIGHEST_SYMBOL, HIGHEST_SYMBOL + 1);
+        record[at] =
+            chance.weighted(&[(2, 1), (2, 3), (1, 4), (1, 8), (2, 9), (1, highest), (4, above), (1, 64), (1, 255)]);
     }
 }
 

@@ -3,7 +3,7 @@
 use super::alphabet::Alphabet;
 use super::damage;
 use super::rules::rules;
-use crate::book::{MOST_ARCS, MOST_RULES, MOST_STATES};
+use crate::book::{HIGHEST_SYMBOL, MOST_ARCS, MOST_RULES, MOST_STATES};
 use crate::chance::Chance;
 use crate::draft::{self, Part, Rule};
 use crate::record::{self, ACCEPT, ARC, NEITHER, RULE, START, STATE};
@@ -85,7 +85,7 @@ pub fn places_before(places: usize) -> Part {
     part.flags[places] = ACCEPT;
     part.arc(0, 1, 1, 1);
     for at in 1..places {
-        part.arc(at, 0, 15, at + 1);
+        part.arc(at, 0, HIGHEST_SYMBOL, at + 1);
     }
     part
 }
@@ -94,7 +94,7 @@ pub fn places_before(places: usize) -> Part {
 /// `wide` times `high`; a third symbol empties both and counts the rest.
 pub fn counters(sets: usize, wide: usize, chance: &mut Chance) -> Part {
     let (high, rest) = (sets / wide, sets % wide);
-    let mut symbols: Vec<u8> = (0..16).collect();
+    let mut symbols: Vec<u8> = (0..=HIGHEST_SYMBOL).collect();
     chance.shuffle(&mut symbols);
     let [one, other, empties] = [symbols[0], symbols[1], symbols[2]];
     let counter = counter(wide, one, &|symbol| symbol != one && symbol != empties);
@@ -123,7 +123,7 @@ fn counter(states: usize, counted: u8, keeps: &dyn Fn(u8) -> bool) -> Part {
 /// The symbols named, as ranges.
 fn ranges(named: &dyn Fn(u8) -> bool) -> Vec<(u8, u8)> {
     let mut ranges: Vec<(u8, u8)> = Vec::new();
-    for symbol in (0..16).filter(|symbol| named(*symbol)) {
+    for symbol in (0..=HIGHEST_SYMBOL).filter(|symbol| named(*symbol)) {
         match ranges.last_mut() {
             Some((_, highest)) if *highest + 1 == symbol => *highest = symbol,
             _ => ranges.push((symbol, symbol)),
@@ -134,6 +134,6 @@ fn ranges(named: &dyn Fn(u8) -> bool) -> Vec<(u8, u8)> {
 
 /// Every stretch is a candidate.
 pub fn every_stretch(word: &[u8]) -> Rule {
-    let focus = Part::word(&[0]).with_arc(0, 0, 15, 1).with_arc(1, 0, 15, 1);
+    let focus = Part::word(&[0]).with_arc(0, 0, HIGHEST_SYMBOL, 1).with_arc(1, 0, HIGHEST_SYMBOL, 1);
     Rule::new(Part::any(), focus, Part::any(), word)
 }

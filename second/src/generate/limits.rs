@@ -3,7 +3,7 @@
 use super::alphabet::Alphabet;
 use super::full;
 use super::tapes;
-use crate::book::{MOST_ARCS, MOST_RULES, MOST_STATES};
+use crate::book::{HIGHEST_SYMBOL, MOST_ARCS, MOST_RULES, MOST_STATES, SYMBOLS};
 use crate::call::{Call, Lengths, Operation, LONGEST_BOOK, LONGEST_TAPE as LONGEST_SENT};
 use crate::chance::Chance;
 use crate::draft::{self, Part, Rule};
@@ -152,7 +152,7 @@ fn long_book(chance: &mut Chance) -> Call {
     if chance.one_in(2) {
         book.pop();
         while book.len() < LONGEST_BOOK {
-            book.extend(record::arc(0, 0, 15, 0));
+            book.extend(record::arc(0, 0, HIGHEST_SYMBOL, 0));
         }
     }
     book.resize(LONGEST_BOOK, record::END);
@@ -163,7 +163,7 @@ fn long_book(chance: &mut Chance) -> Call {
 
 /// Eight symbols for each of 4,096.
 fn long_output(chance: &mut Chance) -> Call {
-    let word: Vec<u8> = (0..8).map(|_| chance.below(16) as u8).collect();
+    let word: Vec<u8> = (0..8).map(|_| chance.below(SYMBOLS) as u8).collect();
     let rule = Rule::new(Part::any(), Part::word(&[7]), Part::any(), &word);
     let mut call = call_with(draft::book(&[rule]), repeated(&[7], LONGEST_TAPE), chance);
     if call.operation == Operation::Rewrite {
@@ -174,12 +174,12 @@ fn long_output(chance: &mut Chance) -> Call {
     call
 }
 
-/// Accounts of about as many words as can be lent: 161 symbols have 13,041 stretches, 65,205 words.
+/// Accounts of about as many words as can be lent: 228 symbols have 26,106 stretches, 130,530 words.
 fn long_account(chance: &mut Chance) -> Call {
-    let length = chance.between(159, 163);
+    let length = chance.between(226, 230);
     let mut call = Call::new(Operation::Account);
     call.book = draft::book(&[full::every_stretch(&[1])]);
-    call.tape = (0..length).map(|_| chance.below(16) as u8).collect();
+    call.tape = (0..length).map(|_| chance.below(SYMBOLS) as u8).collect();
     call.fill = chance.byte();
     let (rows, sets) = (workspace::ROW_BYTES, workspace::SETS);
     let lines = super::buffers::needed(&call).min(crate::call::MOST_LINE_WORDS) - chance.below(2);

@@ -1,6 +1,7 @@
 //! Tapes at random, most of them led through the book's own parts so that candidates are met.
 
 use super::alphabet::Alphabet;
+use crate::book::HIGHEST_SYMBOL;
 use crate::chance::Chance;
 use crate::draft::{Arc, Part, Rule};
 use crate::record::{ACCEPT, START};
@@ -54,6 +55,6 @@ pub fn spoil(tape: &mut [u8], chance: &mut Chance) {
     }
     for _ in 0..chance.between(1, 3) {
         let at = chance.below(tape.len());
-        tape[at] = chance.weighted(&[(4, 16), (1, 17), (1, 128), (1, 255)]);
+        tape[at] = chance.weighted(&[(4, HIGHEST_SYMBOL + 1), (1, HIGHEST_SYMBOL + 2), (1, 128), (1, 255)]);
     }
 }

@@ -2,11 +2,10 @@
 
 use super::expression::{letter, Expression, LETTERS};
 use crate::book::Book;
-use crate::candidates::Candidates;
 use crate::chance::Chance;
 use crate::draft::{Part, Rule};
 use crate::reading::Reading;
-use crate::taken::taken;
+use crate::stretches::Stretches;
 
 /// A rule by its expressions; no context is "any".
 pub struct PeerRule {
@@ -76,14 +75,13 @@ fn context(chance: &mut Chance) -> Option<Expression> {
 /// Every output that comes of taking, at each taken stretch, any one of the rules that tie for it. The document's own
 /// output takes the lowest and is the first.
 pub fn outputs(book: &Book, tape: &[u8]) -> Vec<String> {
-    let candidates = Candidates::of(book, tape, Reading::TRUE);
+    let stretches = Stretches::plainly(book, tape, Reading::TRUE);
     let mut outputs = vec![String::new()];
     let mut position = 0;
-    for stretch in taken(&candidates) {
+    for stretch in &stretches.taken {
         let kept: String = tape[position..stretch.start].iter().map(|symbol| written(*symbol)).collect();
-        let mut tying = candidates.at(stretch.start);
-        tying.retain(|tied| tied.end == stretch.end);
-        let words = tying.iter().map(|tied| book.words[tied.rule].iter().map(|symbol| written(*symbol)).collect());
+        let tying = stretches.listed.iter().filter(|tied| (tied.start, tied.end) == (stretch.start, stretch.end));
+        let words = tying.map(|tied| book.words[tied.rule].iter().map(|symbol| written(*symbol)).collect());
         let words: Vec<String> = words.collect();
         let kept = &kept;
         let continued = |before: &String| words.iter().map(|word| format!("{before}{kept}{word}")).collect::<Vec<_>>();

@@ -1,7 +1,6 @@
--- Each answer rewrites `arcReply` with the tests that led to it.
-use Prim.Native.Nat.{ℕ, _<_, _≤_}
-use mathlib.Core.Path.{_≡_, _∙_, sym}
-use mathlib.Core.Bool.{true}
+-- `arc_reply` meets its contract: each answer rewrites `arcReply` with the tests that led to it. Assumes nothing.
+use Prim.Native.Nat.{_<_}
+use mathlib.Core.Path.{_∙_, sym}
 use borrow.Author.Needs.{needs}
 use borrow.Author.Tests.{eq-eqb, ne-eqb, le-ltb, lt-ltb, le-leb, lt-leb}
 use native.Mathlib.Omega.{arith}
@@ -9,9 +8,6 @@ use Rattle.book.specs.Format.{given, arcReply}
 use Rattle.book.proofs.Laws.{given-below}
 use Rattle.book.proofs.arc_reply.Statement.{statement}
 use Rattle.book.proofs.arc_reply.Tie as tie
-use Rattle.book.proofs.arc_reply.Reads as reads
-use Rattle.book.proofs.arc_reply.Lts as lts
-use Rattle.book.proofs.given.Reads as given-reads
 
 returns : tie.Need-returns
 unfolding arcReply

@@ -1,29 +1,23 @@
+-- `rule_reply` meets its contract: each answer rewrites `ruleReply` with the tests that led to it. Assumes nothing.
 use borrow.Author.Needs.{needs}
-use Prim.Native.Nat.{_≤_, _+_}
+use Prim.Native.Nat.{_+_}
 use mathlib.Core.Path.{_∙_, sym}
 use borrow.Author.Tests.{le-ltb, lt-ltb, le-leb, lt-leb}
 use native.Mathlib.Omega.{arith}
-use Rattle.book.specs.Format.{longestWord, byte, ruleReply}
+use Rattle.book.specs.Format.{longestWord, ruleReply}
 use Rattle.book.proofs.rule_reply.Statement.{statement}
 use Rattle.book.proofs.rule_reply.Tie as tie
-use Rattle.book.proofs.rule_reply.Reads as reads
-use Rattle.book.proofs.rule_reply.Lts as lts
-use Rattle.book.proofs.symbols_fit.Reads as symbols-fit-reads
 
--- src/lib.rt:66:9
 returns : tie.Need-returns
 unfolding ruleReply
 returns c = simp (le-leb _ _ (c .if1 .taken))
 
--- src/lib.rt:68:15
 add-n : tie.Need-add-n
 add-n c = search needs
 
--- src/lib.rt:68:13
 shared-slice-read-n : tie.Need-shared-slice-read-n
 shared-slice-read-n c = search needs
 
--- src/lib.rt:68:13
 cast-n : tie.Need-cast-n
 cast-n c = omega (arith, c .shared-slice-known2 .given (c .before .before .before .args .at + 1))
 

@@ -45,11 +45,11 @@ add-n c =
     let low = total-low (a .book .now) (a .tape .now) (a .rows .now) (a .sets .now) (a .scratch .now) (s .pre .1) (l .n) (l .k) (l .i) (l .inv) (c .start-count .result) h (c .start-count .ensures) in
     omega (arith, low, account-most (bookOf (a .book .now)) (s .pre .0 .tests .sound) (a .tape .now) (s .pre .1 .tape-fits))
 
-shared-slice-read-left-step : tie.Need-shared-slice-read-left-step Inv-loop μ-loop
-shared-slice-read-left-step c = search needs
+shared-slice-read-left-entry : tie.Need-shared-slice-read-left-entry Inv-loop μ-loop
+shared-slice-read-left-entry c = search needs
 
-left-step-requires : tie.Need-left-step-requires Inv-loop μ-loop
-left-step-requires c κs =
+left-entry-requires : tie.Need-left-entry-requires Inv-loop μ-loop
+left-entry-requires c κs =
     let l = c .before .before .before .before .loop in
     let h : l .i < length (c .before .before .before .before .before .before .before .before .before .before .args .tape .now) = c .before .before .before .loop-test .taken in
     (omega (arith, l .inv .left .below, c .before .before .before .before .before .before .before .before .before .before .pre .1 .few), c .before .before .before .before .before .before .before .before .before .before .pre .1 .symbols (l .i) h, c .before .before .before .before .before .before .before .before .before .before .pre .1 .rows-room)
@@ -67,7 +67,7 @@ loop-again c =
     let l = c .before .before .before .before .before .loop in
     let r = c .before .before .start-count in
     let h : l .i < length (a .tape .now) = c .before .before .before .before .loop-test .taken in
-    total-turn (a .book .now) (a .tape .now) (a .rows .now) (a .sets .now) (a .scratch .now) (s .pre .1) (l .n) (l .k) (l .i) (l .inv) (r .result) (c .left-step .result) h (r .ensures) (c .left-step .ensures)
+    total-turn (a .book .now) (a .tape .now) (a .rows .now) (a .sets .now) (a .scratch .now) (s .pre .1) (l .n) (l .k) (l .i) (l .inv) (r .result) (c .left-entry .result) h (r .ensures) (c .left-entry .ensures)
 
 returns : tie.Need-returns Inv-loop μ-loop
 returns c =
@@ -87,8 +87,8 @@ count-spec =
     shared-slice-read-start-count
     start-count-requires
     add-n
-    shared-slice-read-left-step
-    left-step-requires
+    shared-slice-read-left-entry
+    left-entry-requires
     add-i
     loop-less
     loop-again

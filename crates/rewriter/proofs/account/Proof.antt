@@ -6,7 +6,7 @@ use Rattle.rewriter.proofs.account.Statement.{statement}
 use Rattle.rewriter.proofs.account.Tie as tie
 use Rattle.rewriter.proofs.account.Reads as reads
 use Rattle.rewriter.proofs.account.Lts as lts
-use Rattle.lines.proofs.list.Reads as list-reads
+use Rattle.lines.proofs.account_ready.Reads as account-ready-reads
 use Rattle.rewriter.proofs.ready.make_ready.Reads as make-ready-reads
 
 -- src/lib.rt:76:9
@@ -33,8 +33,8 @@ returns c =
     account-refused (a .book .now) (a .tape .now) (a .rows .now) (a .sets .now) (a .scratch .now) (m .result .refusal) _ _ _ (m .ensures .0) (c .if1 .taken) (a .lines .now) _ refl
 
 -- src/lib.rt:84:5
-list-requires : tie.Need-list-requires
-list-requires c κs =
+account-ready-requires : tie.Need-account-ready-requires
+account-ready-requires c κs =
     let a = c .before .before .before .before .before .before .before .before .before .before .before .before .before .before .before .before .before .before .before .before .before .before .args in
     let m = c .before .before .before .before .before .before .before .before .before .before .before .before .make-ready in
     let r = left-ready (a .book .now) (a .tape .now) (a .rows .now) (a .sets .now) (a .scratch .now) (m .result .refusal) _ _ _ (m .ensures .0) (c .before .before .before .before .if1 .left) in
@@ -61,7 +61,7 @@ returns-2 : tie.Need-returns-2
 returns-2 c =
     let a = c .before .before .before .before .before .before .before .before .before .before .before .before .before .before .before .before .before .before .before .before .before .before .before .before .before .args in
     let m = c .before .before .before .before .before .before .before .before .before .before .before .before .before .before .before .make-ready in
-    account-done (a .book .now) (a .tape .now) (a .rows .now) (a .sets .now) (a .scratch .now) (m .result .refusal) _ _ _ (m .ensures .0) (c .before .before .before .before .before .before .before .if1 .left) (a .lines .now) (c .before .before .list .result) _ (c .before .before .list .ensures)
+    account-done (a .book .now) (a .tape .now) (a .rows .now) (a .sets .now) (a .scratch .now) (m .result .refusal) _ _ _ (m .ensures .0) (c .before .before .before .before .before .before .before .if1 .left) (a .lines .now) (c .before .before .account-ready .result) _ (c .before .before .account-ready .ensures)
 
 pub account-spec : {M : Type 1} → statement M
 account-spec =
@@ -72,7 +72,7 @@ account-spec =
     same-length-2
     same-length-3
     returns
-    list-requires
+    account-ready-requires
     same-length-4
     same-length-5
     same-length-6

@@ -6,7 +6,7 @@ use Rattle.rewriter.proofs.rewrite.Statement.{statement}
 use Rattle.rewriter.proofs.rewrite.Tie as tie
 use Rattle.rewriter.proofs.rewrite.Reads as reads
 use Rattle.rewriter.proofs.rewrite.Lts as lts
-use Rattle.output.proofs.finish.Reads as finish-reads
+use Rattle.output.proofs.rewrite_ready.Reads as rewrite-ready-reads
 use Rattle.rewriter.proofs.ready.make_ready.Reads as make-ready-reads
 
 -- src/lib.rt:53:9
@@ -33,8 +33,8 @@ returns c =
     rewrite-refused (a .book .now) (a .tape .now) (a .rows .now) (a .sets .now) (a .scratch .now) (m .result .refusal) _ _ _ (m .ensures .0) (c .if1 .taken) (a .out .now) (a .origins .now) _ refl
 
 -- src/lib.rt:62:5
-finish-requires : tie.Need-finish-requires
-finish-requires c κs =
+rewrite-ready-requires : tie.Need-rewrite-ready-requires
+rewrite-ready-requires c κs =
     let a = c .before .before .before .before .before .before .before .before .before .before .before .before .before .before .before .before .before .before .before .before .before .before .before .before .args in
     let m = c .before .before .before .before .before .before .before .before .before .before .before .before .before .make-ready in
     let r = left-ready (a .book .now) (a .tape .now) (a .rows .now) (a .sets .now) (a .scratch .now) (m .result .refusal) _ _ _ (m .ensures .0) (c .before .before .before .before .before .if1 .left) in
@@ -65,7 +65,7 @@ returns-2 : tie.Need-returns-2
 returns-2 c =
     let a = c .before .before .before .before .before .before .before .before .before .before .before .before .before .before .before .before .before .before .before .before .before .before .before .before .before .before .before .before .before .args in
     let m = c .before .before .before .before .before .before .before .before .before .before .before .before .before .before .before .before .before .before .make-ready in
-    rewrite-done (a .book .now) (a .tape .now) (a .rows .now) (a .sets .now) (a .scratch .now) (m .result .refusal) _ _ _ (m .ensures .0) (c .before .before .before .before .before .before .before .before .before .before .if1 .left) (a .out .now) (a .origins .now) (c .before .before .before .before .finish .result) _ _ (c .before .before .before .before .finish .ensures)
+    rewrite-done (a .book .now) (a .tape .now) (a .rows .now) (a .sets .now) (a .scratch .now) (m .result .refusal) _ _ _ (m .ensures .0) (c .before .before .before .before .before .before .before .before .before .before .if1 .left) (a .out .now) (a .origins .now) (c .before .before .before .before .rewrite-ready .result) _ _ (c .before .before .before .before .rewrite-ready .ensures)
 
 pub rewrite-spec : {M : Type 1} → statement M
 rewrite-spec =
@@ -76,7 +76,7 @@ rewrite-spec =
     same-length-2
     same-length-3
     returns
-    finish-requires
+    rewrite-ready-requires
     same-length-4
     same-length-5
     same-length-6

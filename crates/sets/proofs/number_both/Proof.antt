@@ -1,13 +1,14 @@
 -- Three ways out: more left sets than the most, more right ones, or both sides numbered.
 use Rattle.sets.proofs.WaysOut.{way-left, way-right, way-built}
 use mathlib.Core.Path.{refl}
+use native.Mathlib.Omega.{arith}
 use borrow.Author.Needs.{needs}
 use Rattle.sets.proofs.number_both.Statement.{statement}
 use Rattle.sets.proofs.number_both.Tie as tie
 
 number-part-requires : tie.Need-number-part-requires
 number-part-requires c κs =
-    (c .before .before .before .before .before .pre .0, (c .before .before .before .before .before .pre .1 .0, search needs))
+    let p = c .before .before .before .before .before .pre in (p .0, (p .1 .0, (p .1 .1 .0, search needs)))
 
 clear-requires : tie.Need-clear-requires
 clear-requires c κs = search needs
@@ -27,10 +28,16 @@ returns c =
 
 number-part-requires-2 : tie.Need-number-part-requires-2
 number-part-requires-2 c κs =
-    (c .before .before .before .before .before .before .before .before .before .before .before .before .before .pre .0, (c .before .before .before .before .before .before .before .before .before .before .before .before .before .pre .1 .0, search needs))
+    let p = c .before .before .before .before .before .before .before .before .before .before .before .before .before .pre in
+    (p .0, (p .1 .0, (p .1 .1 .0, search needs)))
 
 clear-requires-2 : tie.Need-clear-requires-2
-clear-requires-2 c κs = search needs
+clear-requires-2 c κs =
+    let b = c .before .before .before .before .before .before .before .before .before .before .before .before .before .before .before in
+    let p = b .before .before .before .before .before .before .pre .1 .1 .1 in
+    let k = b .number-part .kept .1 .1 .1 .1 .1 .1 .1 in
+    let m = c .before .before .before .before .before .before .before .number-part2 .kept .1 .1 .1 .1 .1 .1 .1 in
+    (omega (arith, p .0, k .0, m .0), omega (arith, p .1, k .1 .0, m .1 .0))
 
 refused-requires-2 : tie.Need-refused-requires-2
 refused-requires-2 c κs = search needs

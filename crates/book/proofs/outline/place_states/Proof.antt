@@ -1,98 +1,110 @@
-use Prim.Native.Nat.{ℕ, zero, suc, _≤_, _<_, _+_, _-_}
-use mathlib.Core.Path.{_≡_, refl, _∙_, sym, subst}
+-- `outline::place_states` meets its contract: a second walk over the records of an accepted book, with the array of the places as far as it has
+-- come (`Placing`); an unknown kind is not met. Assumes nothing.
+use Prim.Native.Nat.{ℕ, _+_, _<_, _-_}
+use mathlib.Core.Path.{_≡_}
 use mathlib.Core.Logic.{⊎-elim}
 use borrow.Author.Needs.{needs}
 use native.Mathlib.Omega.{arith}
-use lib.ListN.{length, getD, replicate}
-use Rattle.book.specs.Format.{byte, recordSize}
-use Rattle.book.specs.Reading.{Book, bookOf, stateAt, withRecord}
-use Rattle.book.proofs.Laws.{size-state}
-use Rattle.book.proofs.Passed.{Passed, state-room}
-use Rattle.book.proofs.Walk.{Walk, walk-start, walk-passed, walk-last, walk-more, states-more, states-same}
-use Rattle.book.proofs.Placing.{Placing, place-more, place-fits}
+use mathlib.Core.List.{List}
+use lib.ListN.{length, set, length-append}
+use Rattle.book.specs.Format.{mostStates, stateKind, endKind, byte, recordSize}
+use Rattle.book.specs.Reading.{Book, scanOf, bookOf, withRecord}
+use Rattle.book.proofs.Laws.{size-none, size-unknown}
+use Rattle.book.proofs.Passed.{state-room}
+use Rattle.book.proofs.Walk.{Walk, walk-start, walk-passed, walk-more, states-more, states-same}
+use Rattle.book.proofs.Placing.{Placing, placing-start, placing-here, placing-other, placing-end, place-fits}
 use Rattle.book.proofs.outline.place_states.Statement.{statement}
 use Rattle.book.proofs.outline.place_states.Tie as tie
-use Rattle.book.proofs.outline.place_states.Reads as reads
-use Rattle.book.proofs.outline.place_states.Lts as lts
-use Rattle.book.proofs.record_size.Reads as record-size-reads
 
 abbrev Inv-loop : tie.InvT-loop
-Inv-loop s out₀ states₀ at₀ out states at = (b : Book) × Walk s at b (bookOf s) × Placing states (out .places) (b .states)
+Inv-loop s out₀ states₀ at₀ out states at =
+    (b : Book) × Walk s at b (bookOf s) × Placing stateKind s mostStates at states (out .places) (length (b .states))
+
+-- a record more
+module _ (s : List ℕ) (at : ℕ) (b B : Book) (w : Walk s at b B) (n : ℕ) (l : List ℕ) (p : Placing stateKind s mostStates at n l (length (b .states))) where
+  here : byte s at ≡ stateKind → Placing stateKind s mostStates (at + recordSize (byte s at)) (n + 1) (set l n at) (length (withRecord s at b .states))
+  here k =
+      let q = walk-passed s at b B w in
+      let room : n < mostStates = omega (arith, state-room s at (scanOf b) (q .kind) k, p .same) in
+      rw (states-more s at b k, length-append) (placing-here stateKind s mostStates at n l _ (q .inside) (λ e. omega arith) (q .known) k room p)
+
+  other : (byte s at ≡ endKind → ⊥) → (byte s at ≡ stateKind → ⊥)
+      → Placing stateKind s mostStates (at + recordSize (byte s at)) n l (length (withRecord s at b .states))
+  other f k =
+      let q = walk-passed s at b B w in
+      rw (states-same s at b k) (placing-other stateKind s mostStates at n l _ (q .inside) f (q .known) k p)
 
 abbrev μ-loop : tie.MeasureT-loop
 μ-loop s out₀ states₀ at₀ out states at = length s - at
 
-none : (n k : ℕ) → _≡_ {A = ℕ} (getD (replicate n 0) k 0) 0
-none zero k = refl
-none (suc n) zero = refl
-none (suc n) (suc k) = none n k
-
--- src/lib.rt:30:5
 loop-holds : tie.Need-loop-holds Inv-loop μ-loop
-loop-holds c = (_, walk-start _ (c .before .pre), record { count = refl; each = none 64; long = refl })
+loop-holds c = (_, walk-start _ (c .before .pre), placing-start stateKind _ mostStates)
 
--- src/lib.rt:31:20
 shared-slice-read-kind : tie.Need-shared-slice-read-kind Inv-loop μ-loop
 shared-slice-read-kind c = walk-passed _ _ _ _ (c .before .loop .inv .1) .inside
 
--- src/lib.rt:33:13
-returns : tie.Need-returns Inv-loop μ-loop
-returns c =
-    let i = c .before .before .loop .inv in
-    rw (← (walk-last _ _ _ _ (i .1) (c .if1 .taken))) (i .2 .each)
-
--- src/lib.rt:36:34
 cast-out : tie.Need-cast-out Inv-loop μ-loop
-cast-out c = omega (arith, place-fits _ _ _ _ (c .before .before .before .loop .inv .1))
+cast-out c = omega (arith, place-fits _ _ _ _ (c .before .before .loop .inv .1))
 
--- src/lib.rt:36:13
 mul-out : tie.Need-mul-out Inv-loop μ-loop
 mul-out c = search needs
 
--- src/lib.rt:36:13
 element-write-out : tie.Need-element-write-out Inv-loop μ-loop
 element-write-out c =
-    let i = c .before .before .before .loop .inv in
-    let h = state-room _ _ _ (walk-passed _ _ _ _ (i .1) .kind) (c .if2 .taken) in
-    omega (arith, i .2 .count)
+    let i = c .before .before .loop .inv in
+    let h = state-room _ _ _ (walk-passed _ _ _ _ (i .1) .kind) (c .match .keys2) in
+    omega (arith, i .2 .same)
 
--- src/lib.rt:37:13
 add-states : tie.Need-add-states Inv-loop μ-loop
 add-states c =
-    let i = c .before .before .before .loop .inv in
-    let h = state-room _ _ _ (walk-passed _ _ _ _ (i .1) .kind) (c .if2 .taken) in
-    omega (arith, i .2 .count)
+    let i = c .before .before .loop .inv in
+    let h = state-room _ _ _ (walk-passed _ _ _ _ (i .1) .kind) (c .match .keys2) in
+    omega (arith, i .2 .same)
 
--- src/lib.rt:39:15
+returns : tie.Need-returns Inv-loop μ-loop
+returns c =
+    let i = c .before .before .loop .inv in
+    placing-end _ _ _ _ _ _ _ (walk-passed _ _ _ _ (i .1) .inside) (c .match .keys4) (i .2)
+
+returns-2 : tie.Need-returns-2 Inv-loop μ-loop
+returns-2 c = absurd (walk-passed _ _ _ _ (c .before .before .loop .inv .1) .known (size-none (c .match .keys5)))
+
+returns-3 : tie.Need-returns-3 Inv-loop μ-loop
+returns-3 c =
+    let r = c .match .rest in
+    absurd (walk-passed _ _ _ _ (c .before .before .loop .inv .1) .known (size-unknown (r .0 .0 .0 .0 .1) (r .0 .0 .0 .1) (r .0 .0 .1) (r .0 .1)))
+
 record-size-requires : tie.Need-record-size-requires Inv-loop μ-loop
 record-size-requires c κs = search needs
 
--- src/lib.rt:39:9
 add-at : tie.Need-add-at Inv-loop μ-loop
 add-at c =
-    let p = walk-passed _ _ _ _ (c .before .before .before .before .loop .inv .1) in
+    let p = walk-passed _ _ _ _ (c .before .before .before .loop .inv .1) in
     omega (arith, p .whole, p .known, c .record-size .ensures)
 
--- src/lib.rt:30:5
 loop-less : tie.Need-loop-less Inv-loop μ-loop
 loop-less c =
-    let p = walk-passed _ _ _ _ (c .before .before .before .before .loop .inv .1) in
+    let p = walk-passed _ _ _ _ (c .before .before .before .loop .inv .1) in
     omega (arith, p .whole, p .known, c .record-size .ensures)
 
--- src/lib.rt:30:5
 loop-again : tie.Need-loop-again Inv-loop μ-loop
 loop-again c =
-    let l = c .before .before .before .before in
+    let l = c .before .before .before in
     let i = l .loop .inv in
+    let at = l .loop .at in
     let s = l .before .before .args .s .now in
-    let room : byte s (l .loop .at) ≡ 2 → l .loop .states < 64 = λ k. omega (arith, i .2 .count, state-room _ _ _ (walk-passed _ _ _ _ (i .1) .kind) k) in (
-      withRecord s (l .loop .at) (i .0),
-      rw (c .record-size .ensures) (walk-more _ _ _ _ (i .1) (c .before .before .if1 .left)),
-      ⊎-elim
-          (λ w. rw (w .1, w .2, states-more s (l .loop .at) (i .0) (w .0 .taken))
-          (place-more _ _ _ (stateAt s (l .loop .at) (i .0)) (room (w .0 .taken)) (i .2)))
-          (λ w. rw (w .1, w .2, states-same s (l .loop .at) (i .0) (w .0 .left)) (i .2))
-          (c .before .if2 .came),
+    let m = c .before .match .came in
+    let f : byte s at ≡ endKind → ⊥ =
+    ⊎-elim (λ w e. omega (arith, w .0 .keys1)) (⊎-elim (λ w e. omega (arith, w .0 .keys2)) (λ w e. omega (arith, w .0 .keys3))) m in (
+      withRecord s at (i .0),
+      rw (c .record-size .ensures) (walk-more _ _ _ _ (i .1) f),
+      rw (c .record-size .ensures)
+          (⊎-elim
+          (λ w. let k = w .0 .keys1 in rw (w .1, w .2) (other s at (i .0) _ (i .1) _ _ (i .2) (λ e. omega arith) (λ e. omega arith)))
+          (⊎-elim
+          (λ w. rw (w .1, w .2) (here s at (i .0) _ (i .1) _ _ (i .2) (w .0 .keys2)))
+          (λ w. let k = w .0 .keys3 in rw (w .1, w .2) (other s at (i .0) _ (i .1) _ _ (i .2) (λ e. omega arith) (λ e. omega arith))))
+          m),
     )
 
 pub place-states-spec : {M : Type 1} → statement M
@@ -103,11 +115,13 @@ place-states-spec =
     μ-loop
     loop-holds
     shared-slice-read-kind
-    returns
     cast-out
     mul-out
     element-write-out
     add-states
+    returns
+    returns-2
+    returns-3
     record-size-requires
     add-at
     loop-less

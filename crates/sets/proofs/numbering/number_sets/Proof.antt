@@ -10,7 +10,7 @@ use Rattle.book.proofs.Accepted.{is-accepted}
 use Rattle.book.proofs.Sound.{accepted-sound}
 use Rattle.sets.specs.Stepping.{closeBy}
 use Rattle.sets.specs.Numbering.{mostSets}
-use Rattle.sets.specs.Sides.{firstOf, stepOf, tableOf}
+use Rattle.sets.specs.Sides.{sideFirst, sideStep, sideTable}
 use Rattle.sets.proofs.Rows.{close-first, close-row}
 use Rattle.sets.proofs.At.{Before, In, clear-rows, clear-sets, before-first, whole, too-many, in-first, in-last, in-new, in-old, in-full, new-small, old-small}
 use borrow.Author.Needs.{needs}
@@ -18,32 +18,32 @@ use Rattle.sets.proofs.numbering.number_sets.Statement.{statement}
 use Rattle.sets.proofs.numbering.number_sets.Tie as tie
 
 abbrev Inv-loop : tie.InvT-loop
-Inv-loop book lefts rights starts ends back rows₀ sets₀ count₀ k last₀ number₀ row symbol₀ rows sets count last number symbol =
-    In (stepOf (bookOf book) back) (closeBy lefts rights starts ends back) (firstOf (bookOf book) back) k symbol (row .each) rows sets count last number
+Inv-loop book places lefts rights starts ends back rows₀ sets₀ count₀ k last₀ number₀ row symbol₀ rows sets count last number symbol =
+    In (sideStep (bookOf book) back) (closeBy lefts rights starts ends back) (sideFirst (bookOf book) back) k symbol (row .each) rows sets count last number
 
 abbrev μ-loop : tie.MeasureT-loop
-μ-loop book lefts rights starts ends back rows₀ sets₀ count₀ k last₀ number₀ row symbol₀ rows sets count last number symbol =
+μ-loop book places lefts rights starts ends back rows₀ sets₀ count₀ k last₀ number₀ row symbol₀ rows sets count last number symbol =
     symbolCount - symbol
 
 abbrev Inv-all : tie.InvT-all
-Inv-all book lefts rights starts ends back rows₀ sets₀ count₀ k₀ last₀ number₀ rows sets count k last number =
-    Before (stepOf (bookOf book) back) (closeBy lefts rights starts ends back) (firstOf (bookOf book) back) k rows sets count last number
+Inv-all book places lefts rights starts ends back rows₀ sets₀ count₀ k₀ last₀ number₀ rows sets count k last number =
+    Before (sideStep (bookOf book) back) (closeBy lefts rights starts ends back) (sideFirst (bookOf book) back) k rows sets count last number
 
 abbrev μ-all : tie.MeasureT-all
-μ-all book lefts rights starts ends back rows₀ sets₀ count₀ k₀ last₀ number₀ rows sets count k last number =
+μ-all book places lefts rights starts ends back rows₀ sets₀ count₀ k₀ last₀ number₀ rows sets count k last number =
     mostSets - k
 
 close-requires : tie.Need-close-requires Inv-loop μ-loop Inv-all μ-all
 close-requires c κs = search needs
 
 slice-write-sets : tie.Need-slice-write-sets Inv-loop μ-loop Inv-all μ-all
-slice-write-sets c = omega (arith, clear-sets _ _ (c .before .before .before .before .pre .1 .1))
+slice-write-sets c = omega (arith, clear-sets _ _ (c .before .before .before .before .pre .1 .1 .1))
 
 all-holds : tie.Need-all-holds Inv-loop μ-loop Inv-all μ-all
 all-holds c =
     let p = c .before .before .before .before .pre in
     let x = c .close in
-    before-first _ _ _ _ _ _ (p .1 .1) (x .ensures) (x .ensures ∙ close-first _ (accepted-sound _ _ (is-accepted _ (p .0))) _ _ _ _ (p .1 .0) _)
+    before-first _ _ _ _ _ _ (p .1 .1 .1) (x .ensures) (x .ensures ∙ close-first _ (accepted-sound _ _ (is-accepted _ (p .0))) _ _ _ _ (p .1 .1 .0) _)
 
 mul-side-row : tie.Need-mul-side-row Inv-loop μ-loop Inv-all μ-all
 mul-side-row c = omega arith
@@ -52,12 +52,13 @@ slice-read-side-row : tie.Need-slice-read-side-row Inv-loop μ-loop Inv-all μ-a
 slice-read-side-row c = omega arith
 
 side-row-requires : tie.Need-side-row-requires Inv-loop μ-loop Inv-all μ-all
-side-row-requires c κs = c .before .before .before .before .before .before .before .pre .0
+side-row-requires c κs = let p = c .before .before .before .before .before .before .before .pre in (p .0, p .1 .0)
 
 loop-holds : tie.Need-loop-holds Inv-loop μ-loop Inv-all μ-all
 loop-holds c =
     let p = c .before .before .before .before .before .before .before .before .pre in
-    in-first _ _ _ _ _ _ _ _ _ _ (c .before .before .before .all .inv) (c .before .before .if1 .left) (close-row _ (accepted-sound _ _ (is-accepted _ (p .0))) _ _ _ _ (p .1 .0) _ _ _ (c .side-row .ensures))
+    in-first _ _ _ _ _ _ _ _ _ _ (c .before .before .before .all .inv) (c .before .before .if1 .left)
+    (close-row _ (accepted-sound _ _ (is-accepted _ (p .0))) _ _ _ _ (p .1 .1 .0) _ _ _ (c .side-row .ensures))
 
 cast-step : tie.Need-cast-step Inv-loop μ-loop Inv-all μ-all
 cast-step c = omega arith
@@ -136,25 +137,27 @@ all-again : tie.Need-all-again Inv-loop μ-loop Inv-all μ-all
 all-again c = in-last _ _ _ _ _ _ _ _ _ _ _ (c .before .loop .inv) (c .loop-test .left)
 
 same-length : tie.Need-same-length Inv-loop μ-loop Inv-all μ-all
-same-length c = omega (arith, clear-rows _ _ (c .before .before .before .before .before .before .pre .1 .1))
+same-length c = omega (arith, clear-rows _ _ (c .before .before .before .before .before .before .pre .1 .1 .1))
 
 same-length-2 : tie.Need-same-length-2 Inv-loop μ-loop Inv-all μ-all
-same-length-2 c = omega (arith, clear-sets _ _ (c .before .before .before .before .before .before .pre .1 .1))
+same-length-2 c = omega (arith, clear-sets _ _ (c .before .before .before .before .before .before .pre .1 .1 .1))
 
 returns : tie.Need-returns Inv-loop μ-loop Inv-all μ-all
-unfolding tableOf
+unfolding sideTable
 returns c = whole _ _ _ _ _ _ (c .before .all .inv .at) (c .if1 .taken)
 
 same-length-3 : tie.Need-same-length-3 Inv-loop μ-loop Inv-all μ-all
 same-length-3 c =
-    omega (arith, clear-rows _ _ (c .before .before .before .before .before .before .before .before .before .before .before .before .before .before .before .pre .1 .1))
+    let p = c .before .before .before .before .before .before .before .before .before .before .before .before .before .before .before .pre in
+    omega (arith, clear-rows _ _ (p .1 .1 .1))
 
 same-length-4 : tie.Need-same-length-4 Inv-loop μ-loop Inv-all μ-all
 same-length-4 c =
-    omega (arith, clear-sets _ _ (c .before .before .before .before .before .before .before .before .before .before .before .before .before .before .before .pre .1 .1))
+    let p = c .before .before .before .before .before .before .before .before .before .before .before .before .before .before .before .pre in
+    omega (arith, clear-sets _ _ (p .1 .1 .1))
 
 returns-2 : tie.Need-returns-2 Inv-loop μ-loop Inv-all μ-all
-unfolding tableOf
+unfolding sideTable
 returns-2 c =
     let l = c .before .before .before .before .before .before .loop in
     let t = c .before .before .before .before .before .loop-test in

@@ -14,13 +14,13 @@ use Rattle.sets.proofs.stepping.focus_step.Statement.{statement}
 use Rattle.sets.proofs.stepping.focus_step.Tie as tie
 
 abbrev Inv-loop : tie.InvT-loop
-Inv-loop s places set symbol left₀ out₀ done₀ left out done = Stepping (bookOf s .arcs) set symbol left out done
+Inv-loop s places set symbol left₀ out₀ done₀ left out done = Stepping 1 4 (bookOf s .arcs) set symbol left out done
 
 abbrev μ-loop : tie.MeasureT-loop
 μ-loop s places set symbol left₀ out₀ done₀ left out done = left
 
 loop-holds : tie.Need-loop-holds Inv-loop μ-loop
-loop-holds c = stepping-start _ _ _ (search needs)
+loop-holds c = stepping-start 1 4 _ _ _ (search needs)
 
 cast-state : tie.Need-cast-state Inv-loop μ-loop
 cast-state c = let l = c .before .loop in omega (arith, lowest 64 (l .left) (omega arith) (l .inv .small) .below)
@@ -49,7 +49,7 @@ loop-less c = without-less (c .before .before .before .before .before .before .l
 loop-again : tie.Need-loop-again Inv-loop μ-loop
 loop-again c =
     let l = c .before .before .before .before .before .before .loop in
-    turn-swept _ _ _ (l .left) (l .out) (l .done) (omega arith) (l .inv) (c .before .sweep .result) (c .before .sweep .ensures)
+    turn-swept 1 4 _ _ _ (l .left) (l .out) (l .done) (omega arith) (l .inv) _ _ (c .before .sweep .ensures)
 
 loop-less-2 : tie.Need-loop-less-2 Inv-loop μ-loop
 loop-less-2 c = without-less (c .before .before .before .before .loop .left) (omega arith)
@@ -58,19 +58,20 @@ loop-again-2 : tie.Need-loop-again-2 Inv-loop μ-loop
 loop-again-2 c =
     let a = c .before .before .before .before .before .before in
     let l = c .before .before .before .before .loop in
-    turn-none _ _ _ (l .left) (l .out) (l .done) (omega arith) (l .inv) (none-placed _ (trailingZeros 64 (l .left)) _ _ (a .pre .0) (a .pre .1 _) (c .if2 .left))
+    turn-none 1 4 _ _ _ (l .left) (l .out) (l .done) (omega arith) (l .inv)
+    (none-placed 1 4 _ (trailingZeros 64 (l .left)) _ _ (a .pre .0) (a .pre .1 _) (c .if2 .left))
 
 loop-less-3 : tie.Need-loop-less-3 Inv-loop μ-loop
 loop-less-3 c = without-less (c .before .before .loop .left) (omega arith)
 
 loop-again-3 : tie.Need-loop-again-3 Inv-loop μ-loop
-loop-again-3 c = let l = c .before .before .loop in turn-done _ _ _ (l .left) (l .out) (l .done) (omega arith) (l .inv) (c .if1 .left)
+loop-again-3 c = let l = c .before .before .loop in turn-done 1 4 _ _ _ (l .left) (l .out) (l .done) (omega arith) (l .inv) (c .if1 .left)
 
 returns : tie.Need-returns Inv-loop μ-loop
 returns c =
     let a = c .before .before .before in
     let l = c .before .loop in
-    stepping-end _ _ _ (l .left) (l .out) (l .done) (omega arith) (l .inv) ∙ step-is _ _ _ (accepted-sound _ _ (is-accepted _ (a .pre .0)))
+    stepping-end 1 4 _ _ _ (l .left) (l .out) (l .done) (omega arith) (l .inv) ∙ step-is _ _ _ (accepted-sound _ _ (is-accepted _ (a .pre .0)))
 
 pub focus-step-spec : {M : Type 1} → statement M
 focus-step-spec =

@@ -7,14 +7,14 @@ use Rattle.sets.proofs.stepping.side_row.Tie as tie
 
 step-row-requires : tie.Need-step-row-requires
 unfolding isEnd
-step-row-requires c κs = (c .before .before .pre, (refl, refl))
+step-row-requires c κs = let p = c .before .before .pre in (p .0, (p .1, (refl, refl)))
 
 returns : tie.Need-returns
 returns c = row-right _ _ _ _ (c .before .if1 .taken) (c .step-row .ensures)
 
 step-row-requires-2 : tie.Need-step-row-requires-2
 unfolding isEnd
-step-row-requires-2 c κs = (c .before .before .pre, (refl, refl))
+step-row-requires-2 c κs = let p = c .before .before .pre in (p .0, (p .1, (refl, refl)))
 
 returns-2 : tie.Need-returns-2
 returns-2 c = row-left _ _ _ _ (c .before .if1 .left) (c .step-row2 .ensures)

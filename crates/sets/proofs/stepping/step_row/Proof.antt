@@ -1,75 +1,98 @@
--- At each place of the walk over the book the row has the steps over the arcs read so far.
-use Prim.Native.Nat.{_-_}
+-- By `SteppingRow`, as in `focus_step` but on all symbols: each turn takes the lowest state away, and its rule is read from its record on unless
+-- that was done for a lower state.
 use native.Mathlib.Omega.{arith}
-use lib.ListN.{length}
+use borrow.Author.Needs.{needs}
+use lib.Count.{trailingZeros}
 use Rattle.book.specs.Reading.{bookOf}
-use Rattle.book.proofs.Laws.{size-rule, size-state, size-arc}
-use Rattle.sets.proofs.Rows.{RowTo, row-start, row-passed, row-stands, row-arc, row-state, row-rule, row-end}
+use Rattle.book.proofs.Bits.{lowest, without-less}
+use Rattle.sets.proofs.Sweep.{none-placed, placed-fits}
+use Rattle.sets.proofs.Rows.{SteppingRow, row-small, step-row-start, step-row-end, row-turn-done, row-turn-none, row-turn-swept}
 use Rattle.sets.proofs.stepping.step_row.Statement.{statement}
 use Rattle.sets.proofs.stepping.step_row.Tie as tie
 
 abbrev Inv-loop : tie.InvT-loop
-Inv-loop book source target set row₀ at₀ row at = RowTo source target set book (bookOf book) at row
+Inv-loop s places source target set row₀ left₀ done₀ row left done = SteppingRow source target (bookOf s .arcs) set left done row
 
 abbrev μ-loop : tie.MeasureT-loop
-μ-loop book source target set row₀ at₀ row at = length book - at
+μ-loop s places source target set row₀ left₀ done₀ row left done = left
 
+-- src/stepping.rt:207:5
 loop-holds : tie.Need-loop-holds Inv-loop μ-loop
-loop-holds c = row-start _ _ _ _ (c .before .pre .0)
+loop-holds c =
+    step-row-start _ _ _ _ (search needs)
 
-shared-slice-read-kind : tie.Need-shared-slice-read-kind Inv-loop μ-loop
-shared-slice-read-kind c = row-passed _ _ _ _ _ _ _ (c .before .loop .inv) .inside
+-- src/stepping.rt:208:21
+cast-state : tie.Need-cast-state Inv-loop μ-loop
+cast-state c =
+    let l = c .before .loop in omega (arith, lowest 64 (l .left) (omega arith) (row-small _ _ _ _ _ _ _ (l .inv)) .below)
 
-add-arc-requires : tie.Need-add-arc-requires Inv-loop μ-loop
-add-arc-requires c κs =
-    let i = c .before .before .before .loop .inv in
-    let p = c .before .before .before .before .before .pre .1 in
-    (row-stands _ _ _ _ _ _ _ i (p .0) (p .1) (c .before .if1 .taken), i .done .long)
+-- src/stepping.rt:209:24
+sub-left : tie.Need-sub-left Inv-loop μ-loop
+sub-left c =
+    omega arith
 
-add-at : tie.Need-add-at Inv-loop μ-loop
-add-at c =
-    let p = row-passed _ _ _ _ _ _ _ (c .before .before .before .before .loop .inv) in
-    omega (arith, p .whole, size-arc (c .before .before .if1 .taken))
+-- src/stepping.rt:211:25
+mul-place : tie.Need-mul-place Inv-loop μ-loop
+mul-place c =
+    let l = c .before .before .loop in omega (arith, lowest 64 (l .left) (omega arith) (row-small _ _ _ _ _ _ _ (l .inv)) .below)
 
+-- src/stepping.rt:211:25
+element-copy-out-place : tie.Need-element-copy-out-place Inv-loop μ-loop
+element-copy-out-place c =
+    let l = c .before .before .loop in omega (arith, lowest 64 (l .left) (omega arith) (row-small _ _ _ _ _ _ _ (l .inv)) .below)
+
+-- src/stepping.rt:211:25
+cast-place : tie.Need-cast-place Inv-loop μ-loop
+cast-place c =
+    let t = trailingZeros 64 (c .before .before .before .loop .left) in
+    omega (arith, placed-fits _ t _ (c .before .before .before .before .before .pre .0) (c .before .before .before .before .before .pre .1 .0 t))
+
+-- src/stepping.rt:213:17
+sweep-row-requires : tie.Need-sweep-row-requires Inv-loop μ-loop
+sweep-row-requires c κs =
+    let a = c .before .before .before .before .before .before .before in
+    (a .pre .0, (a .pre .1 .0 _, (omega (arith, c .before .if2 .taken), (a .pre .1 .1, c .before .before .before .before .before .loop .inv .long))))
+
+-- src/stepping.rt:207:5
 loop-less : tie.Need-loop-less Inv-loop μ-loop
 loop-less c =
-    let p = row-passed _ _ _ _ _ _ _ (c .before .before .before .before .loop .inv) in
-    omega (arith, p .whole, size-arc (c .before .before .if1 .taken))
+    without-less (c .before .before .before .before .before .before .loop .left) (omega arith)
 
+-- src/stepping.rt:207:5
 loop-again : tie.Need-loop-again Inv-loop μ-loop
 loop-again c =
-    let p = c .before .before .before .before .before .before .pre .1 in
-    row-arc _ _ _ _ _ _ _ (c .before .before .before .before .loop .inv) _ (p .0) (p .1) (c .before .before .if1 .taken) (c .add-arc .ensures)
+    let l = c .before .before .before .before .before .before .loop in
+    row-turn-swept _ _ _ _ (l .left) (l .done) _ (l .inv) (omega arith) _ _ (c .sweep-row .ensures)
 
-add-at-2 : tie.Need-add-at-2 Inv-loop μ-loop
-add-at-2 c =
-    let p = row-passed _ _ _ _ _ _ _ (c .before .before .before .loop .inv) in
-    omega (arith, p .whole, size-state (c .if2 .taken))
-
+-- src/stepping.rt:207:5
 loop-less-2 : tie.Need-loop-less-2 Inv-loop μ-loop
 loop-less-2 c =
-    let p = row-passed _ _ _ _ _ _ _ (c .before .before .before .loop .inv) in
-    omega (arith, p .whole, size-state (c .if2 .taken))
+    without-less (c .before .before .before .before .loop .left) (omega arith)
 
+-- src/stepping.rt:207:5
 loop-again-2 : tie.Need-loop-again-2 Inv-loop μ-loop
-loop-again-2 c = row-state _ _ _ _ _ _ _ (c .before .before .before .loop .inv) (c .if2 .taken)
+loop-again-2 c =
+    let l = c .before .before .before .before .loop in
+    let p = c .before .before .before .before .before .before .pre in
+    row-turn-none _ _ _ _ (l .left) (l .done) _ (l .inv) (omega arith)
+    (λ a. none-placed _ _ _ (trailingZeros 64 (l .left)) _ a (p .0) (p .1 .0 _) (c .if2 .left))
 
-add-at-3 : tie.Need-add-at-3 Inv-loop μ-loop
-add-at-3 c =
-    let p = row-passed _ _ _ _ _ _ _ (c .before .before .before .before .loop .inv) in
-    omega (arith, p .whole, size-rule (c .if3 .taken))
-
+-- src/stepping.rt:207:5
 loop-less-3 : tie.Need-loop-less-3 Inv-loop μ-loop
 loop-less-3 c =
-    let p = row-passed _ _ _ _ _ _ _ (c .before .before .before .before .loop .inv) in
-    omega (arith, p .whole, size-rule (c .if3 .taken))
+    without-less (c .before .before .loop .left) (omega arith)
 
+-- src/stepping.rt:207:5
 loop-again-3 : tie.Need-loop-again-3 Inv-loop μ-loop
-loop-again-3 c = row-rule _ _ _ _ _ _ _ (c .before .before .before .before .loop .inv) (c .if3 .taken)
+loop-again-3 c =
+    let l = c .before .before .loop in
+    row-turn-done _ _ _ _ (l .left) (l .done) _ (l .inv) (omega arith) (c .if1 .left)
 
+-- src/stepping.rt:192:1
 returns : tie.Need-returns Inv-loop μ-loop
 returns c =
-    row-end _ _ _ _ _ _ _ (c .before .before .before .before .loop .inv) (c .before .before .if1 .left) (c .before .if2 .left) (c .if3 .left)
+    let l = c .before .loop in
+    step-row-end _ _ _ _ (l .left) (l .done) _ (l .inv) (omega arith)
 
 pub step-row-spec : {M : Type 1} → statement M
 step-row-spec =
@@ -78,15 +101,16 @@ step-row-spec =
     Inv-loop
     μ-loop
     loop-holds
-    shared-slice-read-kind
-    add-arc-requires
-    add-at
+    cast-state
+    sub-left
+    mul-place
+    element-copy-out-place
+    cast-place
+    sweep-row-requires
     loop-less
     loop-again
-    add-at-2
     loop-less-2
     loop-again-2
-    add-at-3
     loop-less-3
     loop-again-3
     returns)

@@ -33,7 +33,9 @@ part-number-side-end-2 c = search needs
 
 number-side-requires : tie.Need-number-side-requires
 number-side-requires c κs =
-    (c .before .before .before .before .before .pre .0, (c .before .before .before .before .before .pre .1 .0, (part-len (c .before .before .before .before .before .args .row) _ _ (c .before .before .before .before .before .pre .1 .1 .0), part-len (c .before .before .before .before .before .args .set) _ _ (c .before .before .before .before .before .pre .1 .1 .1))))
+    let a = c .before .before .before .before .before .args in
+    let p = c .before .before .before .before .before .pre in
+    (p .0, (p .1 .0, (p .1 .1 .0, (part-len (a .row) _ _ (p .1 .1 .1 .0), part-len (a .set) _ _ (p .1 .1 .1 .1)))))
 
 same-length : tie.Need-same-length
 same-length c = search needs
@@ -43,7 +45,11 @@ same-length-2 c = search needs
 
 returns : tie.Need-returns
 returns c =
-    placed-at _ _ (c .before .before .before .before .before .before .before .before .before .before .args .row) (c .before .before .before .before .before .before .before .before .before .before .args .set) (c .before .before .before .before .before .before .before .before .before .before .args .rows .now) (c .before .before .before .before .before .before .before .before .before .before .args .sets .now) _ _ (c .before .before .before .before .before .before .before .before .before .before .pre .1 .1 .0) (c .before .before .before .before .before .before .before .before .before .before .pre .1 .1 .1) (c .before .before .before .before .number-side .kept .1 .1 .1 .1 .1 .1 .0) (c .before .before .before .before .number-side .kept .1 .1 .1 .1 .1 .1 .1 .0) (c .before .before .before .before .number-side .ensures)
+    let n = c .before .before .before .before .number-side in
+    let k = n .kept .1 .1 .1 .1 .1 .1 .1 in
+    let a = c .before .before .before .before .before .before .before .before .before .before .args in
+    let p = c .before .before .before .before .before .before .before .before .before .before .pre .1 .1 .1 in
+    placed-at _ _ (a .row) (a .set) (a .rows .now) (a .sets .now) _ _ (p .0) (p .1) (k .0) (k .1 .0) (n .ensures)
 
 pub number-part-spec : {M : Type 1} → statement M
 number-part-spec =

@@ -19,10 +19,13 @@ number-sets-requires c κs =
       p .0,
       (
         p .1 .0,
-        record {
-          rows = c .before .before .before .before .before .before .before .before .clear-rows .ensures ∙ ap (λ (n : ℕ). pad n []) (p .1 .1 .0);
-          sets = c .before .before .before .before .clear-sets .ensures ∙ ap (λ (n : ℕ). pad n []) (p .1 .1 .1);
-        },
+        (
+          p .1 .1 .0,
+          record {
+            rows = c .before .before .before .before .before .before .before .before .clear-rows .ensures ∙ ap (λ (n : ℕ). pad n []) (p .1 .1 .1 .0);
+            sets = c .before .before .before .before .clear-sets .ensures ∙ ap (λ (n : ℕ). pad n []) (p .1 .1 .1 .1);
+          },
+        ),
       ),
     )
 

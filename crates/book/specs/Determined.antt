@@ -1,0 +1,36 @@
+-- Document 01, "How tight the promises are": each contract "determines its reply, counts, place and every lent element afterwards, for all
+-- inputs". The contract is the function's own as the checker reads it: `Post` of its generated module `Reads`, with the kinds of its parameters
+-- and of its result. No contract uses these definitions.
+use Prim.Native.Nat.{ℕ, _<_}
+use mathlib.Core.List.{List}
+use mathlib.Core.Path.{_≡_}
+use lib.ListN.{getD}
+use contract.Lifetimes.{Lfts}
+use denote.Ref.{RefT, ptr, now}
+use denote.Triple.Clauses.{Lasts, atExit}
+use borrow.Fn.Kinds.{PK, RK, In, Out, Dens, resT, endedOf}
+
+-- two ways out that the contract P allows for the same arguments are one: the results are the same, and so is the last value of each parameter
+-- that is lent to be written
+abbrev pub Determines : (n : ℕ) (ps : List (PK n)) (r : RK n) → ((κs : Lfts n) → resT r κs .Denot → resT r κs .Denot → Type 0) → Out n ps r → Type 0
+Determines n ps r Same P = (κs : Lfts n) (a : Dens κs ps) (x y : resT r κs .Denot) (v w : Lasts (endedOf n ps r) κs a)
+    → P κs a x (atExit (endedOf n ps r) κs a v)
+    → P κs a y (atExit (endedOf n ps r) κs a w)
+    → Same κs x y × (v ≡ w)
+
+-- of results that are compared whole
+abbrev pub Determined : (n : ℕ) (ps : List (PK n)) (r : RK n) → Out n ps r → Type 0
+Determined n ps r = Determines n ps r (λ κs x y. x ≡ y)
+
+-- the contract P of a function that is called only where Q holds of the arguments
+abbrev pub Called : (n : ℕ) (ps : List (PK n)) (r : RK n) → In n ps → Out n ps r → Out n ps r
+Called n ps r Q P κs a x e = Q κs a × P κs a x e
+
+-- parts of a slice: the same place in memory, and the same elements
+pub record SamePart (x y : RefT (List ℕ)) : Type 0 where
+  pub place : ptr x ≡ ptr y
+  pub elements : now x ≡ now y
+
+-- arrays of n elements, as their type says
+abbrev pub SameArray : ℕ → List ℕ → List ℕ → Type 0
+SameArray n x y = (k : ℕ) → k < n → getD x k 0 ≡ getD y k 0

@@ -1,0 +1,86 @@
+-- `writing::put_line` meets its contract: the stores in a row put the words of one line. Assumes nothing.
+use native.Mathlib.Omega.{arith}
+use borrow.Author.Needs.{needs}
+use lib.ListN.{length-set}
+use Rattle.lines.proofs.Written.{put-words}
+use Rattle.lines.proofs.writing.put_line.Statement.{statement}
+use Rattle.lines.proofs.writing.put_line.Tie as tie
+
+mul-lines : tie.Need-mul-lines
+mul-lines c = search needs
+
+slice-write-lines : tie.Need-slice-write-lines
+slice-write-lines c = search needs
+
+add-lines : tie.Need-add-lines
+add-lines c = search needs
+
+mul-lines-2 : tie.Need-mul-lines-2
+mul-lines-2 c = search needs
+
+slice-write-lines-2 : tie.Need-slice-write-lines-2
+slice-write-lines-2 c =
+    simp length-set (omega arith)
+
+add-lines-2 : tie.Need-add-lines-2
+add-lines-2 c = search needs
+
+mul-lines-3 : tie.Need-mul-lines-3
+mul-lines-3 c = search needs
+
+slice-write-lines-3 : tie.Need-slice-write-lines-3
+slice-write-lines-3 c =
+    simp length-set (omega arith)
+
+add-lines-3 : tie.Need-add-lines-3
+add-lines-3 c = search needs
+
+mul-lines-4 : tie.Need-mul-lines-4
+mul-lines-4 c = search needs
+
+slice-write-lines-4 : tie.Need-slice-write-lines-4
+slice-write-lines-4 c =
+    simp length-set (omega arith)
+
+add-lines-4 : tie.Need-add-lines-4
+add-lines-4 c = search needs
+
+mul-lines-5 : tie.Need-mul-lines-5
+mul-lines-5 c = search needs
+
+slice-write-lines-5 : tie.Need-slice-write-lines-5
+slice-write-lines-5 c =
+    simp length-set (omega arith)
+
+add-result : tie.Need-add-result
+add-result c = search needs
+
+same-length : tie.Need-same-length
+same-length c = search needs
+
+returns : tie.Need-returns
+returns c =
+    let a = c .args in
+    put-words (record { rule = a .rule; start = a .start; end = a .end; verdict = a .verdict; deciding = a .deciding }) (a .lines .now) (a .at) (c .pre)
+
+pub put-line-spec : {M : Type 1} → statement M
+put-line-spec =
+    tie.close
+    (tie.spec
+    mul-lines
+    slice-write-lines
+    add-lines
+    mul-lines-2
+    slice-write-lines-2
+    add-lines-2
+    mul-lines-3
+    slice-write-lines-3
+    add-lines-3
+    mul-lines-4
+    slice-write-lines-4
+    add-lines-4
+    mul-lines-5
+    slice-write-lines-5
+    add-result
+    same-length
+    returns)

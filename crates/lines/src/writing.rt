@@ -1,0 +1,278 @@
+// The lines of the account: for each start the ends in order, and for each end the rules. The walk from a start ends right after its last
+// candidate.
+use crate::LINE_WORDS;
+use sets::entries::left_entry;
+use sets::entries::right_set;
+use stretches::outline::ALL_ACCEPTS;
+use stretches::outline::MASKS;
+use stretches::steps::SLOTS;
+use stretches::steps::STEPS;
+use stretches::walk::focus_first;
+use stretches::walk::rule_hits;
+use stretches::walk::taken_at;
+ghost use mathlib.Core.Path.{_≡_};
+ghost use mathlib.Core.List.{_∷_, []};
+ghost use Prim.Native.Nat.{_+_, _≤_, _<_};
+ghost use lib.ListN.{length};
+ghost use Rattle.book.specs.Reading.{bookOf};
+ghost use Rattle.book.specs.Language.{rulesIn};
+ghost use Rattle.sets.specs.Sets.{leftAt};
+ghost use Rattle.stretches.specs.Candidates.{keep};
+ghost use Rattle.stretches.specs.Account.{verdictBy, account, lineLength, wordsIn};
+ghost use Rattle.stretches.specs.Buffers.{longestTape, onto};
+ghost use Rattle.stretches.specs.Ready.{Tests, Outlined, Ready, RightSets, Remembers};
+ghost use Rattle.stretches.specs.Position.{hits};
+ghost use Rattle.lines.specs.Lines.{decidingAt, lineBy, hitLines, startLines, LinesFit, LinesPut};
+
+// The stretch that decides at a position, and its rule: the taken one that stands over it, or the empty one at it.
+pub struct Deciding {
+    pub start: usize,
+    pub end: usize,
+    pub rule: usize,
+}
+
+// The verdict on the candidate of rule r from i to j, where d decides.
+fn verdict_of(i: usize, j: usize, r: usize, d: Deciding) -> u16
+    ensures { λ v. ⌜ v ≡ verdictBy i j r (d .start) (d .end) (d .rule) ⌝ }
+{
+    if d.start < i {
+        return 3;
+    }
+    if j < d.end {
+        return 1;
+    }
+    if d.rule < r {
+        return 2;
+    }
+    0
+}
+
+// The words of a line, in their order; hands back where the next line begins.
+fn put_line(
+    lines: &mut [u16],
+    at: usize,
+    rule: u16,
+    start: u16,
+    end: u16,
+    verdict: u16,
+    deciding: u16,
+) -> usize
+    requires { ⌜ at + lineLength ≤ length (now lines) ⌝ }
+    ensures { λ p. ⌜ LinesPut (record { rule = rule; start = start; end = end; verdict = verdict; deciding = deciding } ∷ []) at (now (lines .entry)) p (now (lines .exit)) ⌝ }
+{
+    lines[at] = rule;
+    lines[at + 1] = start;
+    lines[at + 2] = end;
+    lines[at + 3] = verdict;
+    lines[at + 4] = deciding;
+    at + LINE_WORDS
+}
+
+// The line of one rule at one end, where it passes.
+fn put_if(
+    book: &[u8],
+    masks: &[u64; MASKS],
+    rules: usize,
+    set: u64,
+    right: u64,
+    r: usize,
+    i: usize,
+    j: usize,
+    d: Deciding,
+    lines: &mut [u16],
+    at: usize,
+) -> usize
+    requires { ⌜ Tests (bookOf (now book)) rules (now masks) ⌝ }
+    requires { ⌜ (r < rules) × (i ≤ longestTape) × (j ≤ longestTape) × (d .start ≤ longestTape) ⌝ }
+    requires { ⌜ LinesFit (keep (hits (bookOf (now book)) set right r) (lineBy i j r d)) at (now lines) ⌝ }
+    ensures { λ p. ⌜ LinesPut (keep (hits (bookOf (now (book .entry))) set right r) (lineBy i j r d)) at (now (lines .entry)) p (now (lines .exit)) ⌝ }
+{
+    let start = d.start;
+    if rule_hits(book, masks, rules, set, right, r) {
+        let verdict = verdict_of(i, j, r, d);
+        return put_line(
+            lines,
+            at,
+            r as u16,
+            i as u16,
+            j as u16,
+            verdict,
+            start as u16,
+        );
+    }
+    at
+}
+
+// The lines of one end. At most ends the set holds no focus accept.
+fn put_rules(
+    book: &[u8],
+    masks: &[u64; MASKS],
+    rules: usize,
+    set: u64,
+    right: u64,
+    i: usize,
+    j: usize,
+    d: Deciding,
+    lines: &mut [u16],
+    at: usize,
+) -> usize
+    requires { ⌜ Tests (bookOf (now book)) rules (now masks) ⌝ }
+    requires { ⌜ (i ≤ longestTape) × (j ≤ longestTape) × (d .start ≤ longestTape) ⌝ }
+    requires { ⌜ LinesFit (hitLines (bookOf (now book)) set right i j d) at (now lines) ⌝ }
+    ensures { λ p. ⌜ LinesPut (hitLines (bookOf (now (book .entry))) set right i j d) at (now (lines .entry)) p (now (lines .exit)) ⌝ }
+{
+    if set & masks[ALL_ACCEPTS] == 0 {
+        return at;
+    }
+    let mut p = at;
+    let mut r = 0;
+    while r < rules {
+        p = put_if(book, masks, rules, set, right, r, i, j, d, lines, p);
+        r += 1;
+    }
+    p
+}
+
+// The lines of one start.
+fn lines_at(
+    book: &[u8],
+    places: &[u16; book::STATES],
+    masks: &[u64; MASKS],
+    rules: usize,
+    tape: &[u8],
+    sets: &[u64],
+    scratch: &[u8],
+    from: usize,
+    left: u64,
+    d: Deciding,
+    lines: &mut [u16],
+    at: usize,
+) -> usize
+    requires { ⌜ Outlined (bookOf (now book)) rules (now places) (now masks) ⌝ }
+    requires { ⌜ RightSets (now book) (now tape) (now sets) (now scratch) ⌝ }
+    requires { ⌜ (from ≤ length (now tape)) × (left ≡ leftAt (bookOf (now book)) (now tape) from) ⌝ }
+    requires { ⌜ (length (now tape) ≤ longestTape) × (d .start ≤ from) ⌝ }
+    requires { ⌜ LinesFit (startLines (rulesIn (now book)) (now tape) from d) at (now lines) ⌝ }
+    ensures { λ p. ⌜ LinesPut (startLines (rulesIn (now (book .entry))) (now (tape .entry)) from d) at (now (lines .entry)) p (now (lines .exit)) ⌝ }
+{
+    let mut set = focus_first(book, masks, rules, left, right_set(sets, scratch, from));
+    let mut p = at;
+    let mut j = from;
+    while j < tape.len() {
+        if set == 0 {
+            return p;
+        }
+        let right = right_set(sets, scratch, j + 1);
+        set = sets::stepping::focus_next(book, places, set, tape[j], right);
+        j += 1;
+        p = put_rules(book, masks, rules, set, right, from, j, d, lines, p);
+    }
+    p
+}
+
+// What decides at position i, where d decides at the one before.
+fn deciding_at(
+    book: &[u8],
+    places: &[u16; book::STATES],
+    masks: &[u64; MASKS],
+    rules: usize,
+    tape: &[u8],
+    sets: &[u64],
+    scratch: &[u8],
+    i: usize,
+    left: u64,
+    d: Deciding,
+    steps: &mut [u64; STEPS],
+    symbols: &mut [u8; SLOTS],
+) -> Deciding
+    requires { ⌜ Outlined (bookOf (now book)) rules (now places) (now masks) ⌝ }
+    requires { ⌜ RightSets (now book) (now tape) (now sets) (now scratch) ⌝ }
+    requires { ⌜ (i ≤ length (now tape)) × (left ≡ leftAt (bookOf (now book)) (now tape) i) ⌝ }
+    requires { ⌜ Remembers (bookOf (now book)) (now steps) (now symbols) ⌝ }
+    ensures { λ r. ⌜ r ≡ decidingAt (rulesIn (now (book .entry))) (now (tape .entry)) i d ⌝ }
+    ensures { λ _. ⌜ Remembers (bookOf (now (book .entry))) (now (steps .exit)) (now (symbols .exit)) ⌝ }
+{
+    if i < d.end {
+        return d;
+    }
+    let t = taken_at(
+        book,
+        places,
+        masks,
+        rules,
+        tape,
+        sets,
+        scratch,
+        i,
+        left,
+        steps,
+        symbols,
+    );
+    Deciding {
+        start: i,
+        end: t.end,
+        rule: t.rule,
+    }
+}
+
+// The whole account, where there is room for it.
+pub(crate) fn write_lines(
+    book: &[u8],
+    places: &[u16; book::STATES],
+    masks: &[u64; MASKS],
+    rules: usize,
+    tape: &[u8],
+    rows: &[u8],
+    sets: &[u64],
+    scratch: &[u8],
+    lines: &mut [u16],
+)
+    requires { ⌜ Outlined (bookOf (now book)) rules (now places) (now masks) ⌝ }
+    requires { ⌜ Ready (now book) (now tape) (now rows) (now sets) (now scratch) ⌝ }
+    requires { ⌜ length (wordsIn (account (rulesIn (now book)) (now tape))) ≤ length (now lines) ⌝ }
+    ensures { λ _. ⌜ now (lines .exit) ≡ onto (wordsIn (account (rulesIn (now (book .entry))) (now (tape .entry)))) (now (lines .entry)) ⌝ }
+{
+    let mut steps = [0u64; STEPS];
+    let mut symbols = [0u8; SLOTS];
+    let mut d = Deciding {
+        start: 0,
+        end: 0,
+        rule: 0,
+    };
+    let mut at = 0;
+    let mut k = 0;
+    let mut i = 0;
+    while i < tape.len() {
+        let left = sets[k];
+        d = deciding_at(
+            book,
+            places,
+            masks,
+            rules,
+            tape,
+            sets,
+            scratch,
+            i,
+            left,
+            d,
+            &mut steps,
+            &mut symbols,
+        );
+        at = lines_at(
+            book,
+            places,
+            masks,
+            rules,
+            tape,
+            sets,
+            scratch,
+            i,
+            left,
+            d,
+            lines,
+            at,
+        );
+        k = left_entry(rows, k, tape[i]);
+        i += 1;
+    }
+}

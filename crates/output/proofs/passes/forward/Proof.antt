@@ -1,0 +1,113 @@
+-- `passes::forward` meets its contract: what is written and counted so far, followed by what is still to come, is the whole. Assumes nothing.
+use Prim.Native.Nat.{_-_, _≤_, _<_}
+use native.Mathlib.Omega.{arith}
+use borrow.Author.Needs.{needs}
+use lib.ListN.{length}
+use Rattle.book.specs.Reading.{bookOf}
+use Rattle.stretches.specs.Ready.{Remembers}
+use Rattle.stretches.proofs.Scans.{rights-of}
+use Rattle.output.proofs.Forth.{Forth, forth-start, forth-room, forth-turn, forth-outs, forth-orgs}
+use Rattle.output.proofs.Measured.{counted-taken, counted-end}
+use Rattle.stretches.proofs.Remembering.{remembers-start}
+use Rattle.output.proofs.passes.forward.Statement.{statement}
+use Rattle.output.proofs.passes.forward.Tie as tie
+
+abbrev Inv-loop : tie.InvT-loop
+Inv-loop book places masks words rules tape rows sets scratch out₀ origins₀ steps₀ symbols₀ at₀ end₀ taken₀ k₀ i₀ out origins steps symbols at end taken k i =
+    Forth book tape sets out₀ origins₀ out origins at taken end k i × Remembers (bookOf book) steps symbols
+
+abbrev μ-loop : tie.MeasureT-loop
+μ-loop book places masks words rules tape rows sets scratch out₀ origins₀ steps₀ symbols₀ at₀ end₀ taken₀ k₀ i₀ out origins steps symbols at end taken k i =
+    length tape - i
+
+loop-holds : tie.Need-loop-holds Inv-loop μ-loop
+loop-holds c =
+    let a = c .before .before .before .before .before .before .before .args in
+    (forth-start (a .book .now) (a .tape .now) (a .rows .now) (a .sets .now) (a .scratch .now) (a .out .now) (a .origins .now) (c .before .before .before .before .before .before .before .pre .1 .0), remembers-start (bookOf (a .book .now)))
+
+mul-write-position : tie.Need-mul-write-position Inv-loop μ-loop
+mul-write-position c = search needs
+
+shared-slice-read-write-position : tie.Need-shared-slice-read-write-position Inv-loop μ-loop
+shared-slice-read-write-position c =
+    omega (arith, c .before .before .loop .inv .0 .counted .left .below, c .before .before .before .before .before .before .before .before .before .before .pre .1 .0 .few, c .before .before .before .before .before .before .before .before .before .before .pre .1 .0 .sets-room)
+
+write-position-requires : tie.Need-write-position-requires Inv-loop μ-loop
+write-position-requires c κs =
+    let a = c .before .before .before .before .before .before .before .before .before .before .before .before .before .before .args in
+    let l = c .before .before .before .before .before .before .loop in
+    let h : l .i < length (a .tape .now) = c .before .before .before .before .before .loop-test .taken in (
+      c .before .before .before .before .before .before .before .before .before .before .before .before .before .before .pre .0,
+      (
+        rights-of (a .book .now) (a .tape .now) (a .rows .now) (a .sets .now) (a .scratch .now) (c .before .before .before .before .before .before .before .before .before .before .before .before .before .before .pre .1 .0),
+        (
+          (h, omega (arith, c .before .before .before .before .before .before .before .before .before .before .before .before .before .before .pre .1 .0 .tape-fits), l .inv .0 .counted .left .is, counted-taken (a .book .now) (a .tape .now) (a .rows .now) (a .sets .now) (a .scratch .now) (c .before .before .before .before .before .before .before .before .before .before .before .before .before .before .pre .1 .0) (l .at) (l .taken) (l .end) (l .k) (l .i) (l .inv .0 .counted)),
+          (forth-room (a .book .now) (a .tape .now) (a .rows .now) (a .sets .now) (a .scratch .now) (a .out .now) (a .origins .now) (c .before .before .before .before .before .before .before .before .before .before .before .before .before .before .pre .1 .0) (l .out) (l .origins) (l .at) (l .taken) (l .end) (l .k) (l .i) (l .inv .0) h (c .before .before .before .before .before .before .before .before .before .before .before .before .before .before .pre .1 .1 .0) (c .before .before .before .before .before .before .before .before .before .before .before .before .before .before .pre .1 .1 .1), l .inv .1),
+        ),
+      ),
+    )
+
+shared-slice-read-left-entry : tie.Need-shared-slice-read-left-entry Inv-loop μ-loop
+shared-slice-read-left-entry c = search needs
+
+left-entry-requires : tie.Need-left-entry-requires Inv-loop μ-loop
+left-entry-requires c κs =
+    let l = c .before .before .before .before .before .before .before .before .before .before .before .before .loop in
+    let h : l .i < length (c .before .before .before .before .before .before .before .before .before .before .before .before .before .before .before .before .before .before .before .before .args .tape .now) = c .before .before .before .before .before .before .before .before .before .before .before .loop-test .taken in
+    (omega (arith, l .inv .0 .counted .left .below, c .before .before .before .before .before .before .before .before .before .before .before .before .before .before .before .before .before .before .before .before .pre .1 .0 .few), c .before .before .before .before .before .before .before .before .before .before .before .before .before .before .before .before .before .before .before .before .pre .1 .0 .symbols (l .i) h, c .before .before .before .before .before .before .before .before .before .before .before .before .before .before .before .before .before .before .before .before .pre .1 .0 .rows-room)
+
+add-i : tie.Need-add-i Inv-loop μ-loop
+add-i c =
+    omega (arith, c .before .before .before .before .before .before .before .before .before .before .before .before .loop-test .taken, c .before .before .before .before .before .before .before .before .before .before .before .before .before .before .before .before .before .before .before .before .before .pre .1 .0 .tape-fits)
+
+loop-less : tie.Need-loop-less Inv-loop μ-loop
+loop-less c = search needs
+
+loop-again : tie.Need-loop-again Inv-loop μ-loop
+loop-again c =
+    let a = c .before .before .before .before .before .before .before .before .before .before .before .before .before .before .before .before .before .before .before .before .before .args in
+    let l = c .before .before .before .before .before .before .before .before .before .before .before .before .before .loop in
+    let p = c .before .before .before .before .before .before .write-position in
+    let h : l .i < length (a .tape .now) = c .before .before .before .before .before .before .before .before .before .before .before .before .loop-test .taken in (
+      forth-turn (a .book .now) (a .tape .now) (a .rows .now) (a .sets .now) (a .scratch .now) (a .out .now) (a .origins .now) (c .before .before .before .before .before .before .before .before .before .before .before .before .before .before .before .before .before .before .before .before .before .pre .1 .0) (l .out) (l .origins) (l .at) (l .taken) (l .end) (l .k) (l .i) (l .inv .0) h (p .result .at) (p .result .end) (p .result .taken) (c .left-entry .result) _ _
+          (forth-room (a .book .now) (a .tape .now) (a .rows .now) (a .sets .now) (a .scratch .now) (a .out .now) (a .origins .now) (c .before .before .before .before .before .before .before .before .before .before .before .before .before .before .before .before .before .before .before .before .before .pre .1 .0) (l .out) (l .origins) (l .at) (l .taken) (l .end) (l .k) (l .i) (l .inv .0) h (c .before .before .before .before .before .before .before .before .before .before .before .before .before .before .before .before .before .before .before .before .before .pre .1 .1 .0) (c .before .before .before .before .before .before .before .before .before .before .before .before .before .before .before .before .before .before .before .before .before .pre .1 .1 .1))
+          (p .ensures .0) (c .left-entry .ensures),
+      p .ensures .1,
+    )
+
+same-length : tie.Need-same-length Inv-loop μ-loop
+same-length c = search needs
+
+same-length-2 : tie.Need-same-length-2 Inv-loop μ-loop
+same-length-2 c = search needs
+
+returns : tie.Need-returns Inv-loop μ-loop
+returns c =
+    let a = c .before .before .before .before .before .before .before .before .before .args in
+    let l = c .before .loop in
+    let z : length (a .tape .now) ≤ l .i = omega arith in (
+      counted-end (a .book .now) (a .tape .now) (a .rows .now) (a .sets .now) (a .scratch .now) (c .before .before .before .before .before .before .before .before .before .pre .1 .0) (l .at) (l .taken) (l .end) (l .k) (l .i) (l .inv .0 .counted) z,
+      (
+        forth-outs (a .book .now) (a .tape .now) (a .rows .now) (a .sets .now) (a .scratch .now) (a .out .now) (a .origins .now) (c .before .before .before .before .before .before .before .before .before .pre .1 .0) (l .out) (l .origins) (l .at) (l .taken) (l .end) (l .k) (l .i) (l .inv .0) z,
+        forth-orgs (a .book .now) (a .tape .now) (a .rows .now) (a .sets .now) (a .scratch .now) (a .out .now) (a .origins .now) (c .before .before .before .before .before .before .before .before .before .pre .1 .0) (l .out) (l .origins) (l .at) (l .taken) (l .end) (l .k) (l .i) (l .inv .0) z,
+      ),
+    )
+
+pub forward-spec : {M : Type 1} → statement M
+forward-spec =
+    tie.close
+    (tie.spec
+    Inv-loop
+    μ-loop
+    loop-holds
+    mul-write-position
+    shared-slice-read-write-position
+    write-position-requires
+    shared-slice-read-left-entry
+    left-entry-requires
+    add-i
+    loop-less
+    loop-again
+    same-length
+    same-length-2
+    returns)
