@@ -1,29 +1,19 @@
 // The books of the cases, written record by record. Where a buffer has no more room a byte is dropped, and the case fails.
 ghost use Prim.Native.Nat.{_<_};
-
-// Kinds, parts and flags of the records.
-const RULE: u8 = 1;
-
-const STATE: u8 = 2;
-
-const ARC: u8 = 3;
-
-const END: u8 = 4;
-
-pub(crate) const LEFT: u8 = 0;
-
-pub(crate) const RIGHT: u8 = 2;
-
-const START: u8 = 1;
-
-const ACCEPT: u8 = 2;
-
-const BOTH: u8 = 3;
+use book::ACCEPT;
+use book::ARC;
+use book::BOTH;
+use book::END;
+use book::LEFT;
+use book::RULE;
+use book::RULE_SIZE;
+use book::START;
+use book::STATE;
 
 const LAST_SYMBOL: u8 = book::SYMBOLS - 1;
 
 // A rule with an empty word.
-const NO_WORD: [u8; 10] = [RULE, 0, 0, 0, 0, 0, 0, 0, 0, 0];
+const NO_WORD: [u8; RULE_SIZE] = [RULE, 0, 0, 0, 0, 0, 0, 0, 0, 0];
 
 // Each 1 becomes 7 8, with no condition on either side. A record a line, the arc's at 22 and the end's at 27; after the book stands one
 // byte more.
@@ -92,7 +82,7 @@ pub(crate) fn many(book: &mut [u8], rules: usize, states: usize, arcs: usize) ->
 }
 
 // A chain's arc from j to j + 1 asks for symbol 1 where j is `asked`, and else for any.
-fn chain_arc(j: u8, asked: u8) -> [u8; 5]
+fn chain_arc(j: u8, asked: u8) -> [u8; book::ARC_SIZE]
     requires { ⌜ j < 255 ⌝ }
 {
     if j == asked {

@@ -416,28 +416,28 @@ fn unbuilt(book: &[u8], reply: u8, note: &[u8]) {
 // "A left part that asks for symbol 1 exactly" 8 "places before the present position, with a full range after it", and 9 places
 fn left_cases() {
     let mut book = [0u8; 100];
-    let n = books::chain(&mut book, books::LEFT, books::RIGHT, 8, 0);
+    let n = books::chain(&mut book, book::LEFT, book::RIGHT, 8, 0);
     build_case(
         front(&book, n),
         ample(),
         accepted(LEFT, 256, 1, 0),
         b"256 left sets",
     );
-    let m = books::chain(&mut book, books::LEFT, books::RIGHT, 9, 0);
+    let m = books::chain(&mut book, book::LEFT, book::RIGHT, 9, 0);
     unbuilt(front(&book, m), 13, b"512 left sets");
 }
 
 // "The mirror image on the right"
 fn right_cases() {
     let mut book = [0u8; 100];
-    let n = books::chain(&mut book, books::RIGHT, books::LEFT, 8, 7);
+    let n = books::chain(&mut book, book::RIGHT, book::LEFT, 8, 7);
     build_case(
         front(&book, n),
         ample(),
         accepted(RIGHT, 1, 256, 0),
         b"256 right sets",
     );
-    let m = books::chain(&mut book, books::RIGHT, books::LEFT, 9, 8);
+    let m = books::chain(&mut book, book::RIGHT, book::LEFT, 9, 8);
     unbuilt(front(&book, m), 14, b"512 right sets");
 }
 
