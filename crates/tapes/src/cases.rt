@@ -197,87 +197,89 @@ fn pair_build(book: &[u8]) {
 }
 
 // The tape is 0 1 0 1, the output 0 7 8 0 7 8.
-fn pair_rewrite(book: &[u8]) {
-    let tape = [0u8, 1, 0, 1];
-    rewrite_case(book, &tape, ample(), accepted(PAIR, 6, 2, 0), b"ample room");
+fn pair_rewrite_case(lent: Lent, want: Want, note: &[u8])
+    requires { ⌜ Room lent ⌝ }
+{
+    let book = books::PAIR;
     rewrite_case(
-        book,
-        &tape,
+        front(&book, books::PAIR_LENGTH),
+        &[0, 1, 0, 1],
+        lent,
+        want,
+        note,
+    );
+}
+
+fn pair_rewrite() {
+    pair_rewrite_case(ample(), accepted(PAIR, 6, 2, 0), b"ample room");
+    pair_rewrite_case(
         lend(ROW_BYTES, SET_WORDS, 5, 6, 6, 0),
         accepted(PAIR, 6, 2, 0),
         b"just enough",
     );
-    rewrite_case(
-        book,
-        &tape,
+    pair_rewrite_case(
         lend(ROW_BYTES - 1, SET_WORDS, 4, 5, 5, 0),
         refused(PAIR, 11, 0),
         b"all too short",
     );
-    rewrite_case(
-        book,
-        &tape,
+    pair_rewrite_case(
         lend(ROW_BYTES, SET_WORDS - 1, 5, 6, 6, 0),
         refused(PAIR, 11, 0),
         b"sets too short",
     );
-    rewrite_case(
-        book,
-        &tape,
+    pair_rewrite_case(
         lend(ROW_BYTES, SET_WORDS, 4, 5, 5, 0),
         refused(PAIR, 12, 0),
         b"scratch too short",
     );
-    rewrite_case(
-        book,
-        &tape,
+    pair_rewrite_case(
         lend(ROW_BYTES, SET_WORDS, 5, 5, 6, 0),
         refused(PAIR, 15, 6),
         b"output too short",
     );
-    rewrite_case(
-        book,
-        &tape,
+    pair_rewrite_case(
         lend(ROW_BYTES, SET_WORDS, 5, 6, 5, 0),
         refused(PAIR, 15, 6),
         b"origins too short",
     );
 }
 
-fn pair_account(book: &[u8]) {
-    let tape = [0u8, 1, 0, 1];
-    account_case(book, &tape, ample(), accepted(PAIR, 2, 0, 0), b"ample room");
+fn pair_account_case(lent: Lent, want: Want, note: &[u8])
+    requires { ⌜ Room lent ⌝ }
+{
+    let book = books::PAIR;
     account_case(
-        book,
-        &tape,
+        front(&book, books::PAIR_LENGTH),
+        &[0, 1, 0, 1],
+        lent,
+        want,
+        note,
+    );
+}
+
+fn pair_account() {
+    pair_account_case(ample(), accepted(PAIR, 2, 0, 0), b"ample room");
+    pair_account_case(
         lend(ROW_BYTES, SET_WORDS, 5, 0, 0, 10),
         accepted(PAIR, 2, 0, 0),
         b"just enough",
     );
-    account_case(
-        book,
-        &tape,
+    pair_account_case(
         lend(ROW_BYTES - 1, SET_WORDS, 4, 0, 0, 9),
         refused(PAIR, 11, 0),
         b"all too short",
     );
-    account_case(
-        book,
-        &tape,
+    pair_account_case(
         lend(ROW_BYTES, SET_WORDS - 1, 5, 0, 0, 10),
         refused(PAIR, 11, 0),
         b"sets too short",
     );
-    account_case(
-        book,
-        &tape,
+    pair_account_case(
         lend(ROW_BYTES, SET_WORDS, 4, 0, 0, 9),
         refused(PAIR, 12, 0),
         b"scratch too short",
     );
-    account_case(
-        book,
-        &tape,
+    pair_account_case(
         lend(ROW_BYTES, SET_WORDS, 5, 0, 0, 9),
         refused(PAIR, 15, 10),
         b"account too short",
@@ -373,8 +375,8 @@ fn all_wrong(book: &[u8]) {
 fn pair_book(book: &[u8]) {
     check_case(book, accepted(PAIR, 1, 4, 1), b"a pair for each 1");
     pair_build(book);
-    pair_rewrite(book);
-    pair_account(book);
+    pair_rewrite();
+    pair_account();
     longest(book);
     too_long(book);
     all_wrong(book);
@@ -462,15 +464,12 @@ fn long_cases() {
     );
 }
 
-// Of the lines only the first is whole, in order and within a tape of four symbols.
 fn show_cases() {
-    let tape = [5u8, 6, 7, 8];
-    let lines = [0u16, 1, 3, 0, 1, 0, 2, 2, 0, 2, 0, 3, 5, 0, 3, 0, 0, 1, 0];
-    show_case(&tape, &lines, 0, &[6, 7], 1, b"a stretch");
-    show_case(&tape, &lines, 1, &[], 0, b"start not below end");
-    show_case(&tape, &lines, 2, &[], 0, b"end past the tape");
-    show_case(&tape, &lines, 3, &[], 0, b"a cut line");
-    show_case(&tape, &lines, usize::MAX, &[], 0, b"no such line");
+    show_case(0, &[6, 7], 1, b"a stretch");
+    show_case(1, &[], 0, b"start not below end");
+    show_case(2, &[], 0, b"end past the tape");
+    show_case(3, &[], 0, b"a cut line");
+    show_case(usize::MAX, &[], 0, b"no such line");
 }
 
 pub(crate) fn all() {
