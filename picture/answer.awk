@@ -2,6 +2,7 @@
 # laid out over this tape is refused, and no page is written.
 
 BEGIN {
+  LINE_WORDS = 5 # rule, start, end, verdict, deciding start
   tape = ENVIRON["TAPE"] ""
   tape_length = length(tape)
   origins = candidates = 0
@@ -15,7 +16,7 @@ function fail(message) {
 
 function fail_line(message) { fail("line " NR " of the answer: " message) }
 
-NR == 1 && /^W [0-9]+ [0-9]+ [0-9a-z]+$/ || NR == 1 && /^W 0 [0-9]+ -$/ {
+NR == 1 && $0 ~ "^W [0-9]+ [0-9]+ [" DIGITS "]+$" || NR == 1 && /^W 0 [0-9]+ -$/ {
   given_output = 1
   output = $4 == "-" ? "" : $4 ""
   output_length = $2 + 0
@@ -36,7 +37,7 @@ NR == 2 && given_output && /^O [0-9 ]+$/ {
   next
 }
 
-NR > 2 && given_output && !refused && /^C [0-9]+ [0-9]+ [0-9]+ [0-3] [0-9]+$/ {
+NR > 2 && given_output && !refused && /^C( [0-9]+)+$/ && NF == 1 + LINE_WORDS && $5 ~ /^[0-3]$/ {
   printed[candidates] = $0
   rule[candidates] = $2 + 0
   start[candidates] = $3 + 0

@@ -2,7 +2,10 @@
 # are document 01's; a number that it may change stands in BEGIN, once.
 
 BEGIN {
-  DIGITS = "0123456789abcdef"
+  DIGITS = "0123456789abcdef" # of symbols 0 and up
+  LAST_SYMBOL = length(DIGITS) - 1
+  LONGEST_TAPE = "4,096"
+  MOST_SETS = 256
   PRINTABLE = "!\"#$%&'()*+,-./:;<=>?@ABCDEFGHIJKLMNOPQRSTUVWXYZ[\\]^_`abcdefghijklmnopqrstuvwxyz{|}~" DIGITS
   UNSEEN[" "] = "space"; UNSEEN["\t"] = "tab"; UNSEEN["\r"] = "CR"
   LONGEST_LIST = 12 # so many groups of symbols are listed in a sentence before it is cut
@@ -76,16 +79,16 @@ function reason() {
   if (number == 2) return "the book has a record of an unknown kind"
   if (number == 3) return "the book has a 17th rule, a 65th state or a 513th arc"
   if (number == 4) return "the book has a state, an arc or its end before any rule"
-  if (number == 5) return "a field of the book is outside its table, a symbol is above 15, or lowest is above highest"
+  if (number == 5) return "a field of the book is outside its table, a symbol is above " LAST_SYMBOL ", or lowest is above highest"
   if (number == 6) return "an arc of the book names a state that the latest rule has not yet given, or joins two parts"
   if (number == 7) return "a focus state of the book is both start and accept"
   if (number == 8) return "a byte follows the end record of the book"
-  if (number == 9) return "the tape is longer than 4,096 symbols"
+  if (number == 9) return "the tape is longer than " LONGEST_TAPE " symbols"
   if (number == 10) return "the tape holds a character that is no symbol"
   if (number == 11) return "the workspace is too short"
   if (number == 12) return "the scratch is shorter than the tape and one more"
-  if (number == 13) return "the book needs more than 256 left sets"
-  if (number == 14) return "the book needs more than 256 right sets"
+  if (number == 13) return "the book needs more than " MOST_SETS " left sets"
+  if (number == 14) return "the book needs more than " MOST_SETS " right sets"
   if (number == 15 && given_output) return "the account has no room for all candidates"
   if (number == 15) return "an output buffer or the account has no room"
   return "a reply that this page has no words for"

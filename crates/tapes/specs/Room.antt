@@ -1,11 +1,13 @@
--- The lengths that a case lends are within the room that there is.
-use Prim.Native.Nat.{_≤_}
+-- The lengths that a case lends are within the room that there is: ROOM_ROWS, ROOM_SETS, SCRATCH, OUT and LINES of src/main.rt.
+use Prim.Native.Nat.{_+_, _≤_}
+use Rattle.sets.specs.Workspace.{rowBytes, setWords}
+use Rattle.stretches.specs.Buffers.{longestTape}
 use Rattle.tapes.specs.declared.Lent.{Lent}
 
 pub record Room (lent : Lent) : Type 0 where
-  pub rows-fit : lent .rows ≤ 8200
-  pub sets-fit : lent .sets ≤ 520
-  pub scratch-fits : lent .scratch ≤ 4100
+  pub rows-fit : lent .rows ≤ rowBytes + 8
+  pub sets-fit : lent .sets ≤ setWords + 8
+  pub scratch-fits : lent .scratch ≤ longestTape + 4
   pub out-fits : lent .out ≤ 6150
   pub origins-fit : lent .origins ≤ 6150
   pub lines-fit : lent .lines ≤ 10250

@@ -1,6 +1,7 @@
 // The cases: books, tapes and room, with what document 01 says of each.
-ghost use Prim.Native.Nat.{_+_, _*_, _≤_, _<_};
-ghost use lib.ListN.{length};
+ghost use Prim.Native.Nat.{_+_, _≤_};
+ghost use Rattle.sets.specs.Workspace.{rowBytes, setWords};
+ghost use Rattle.stretches.specs.Buffers.{longestTape};
 ghost use Rattle.tapes.specs.Room.{Room};
 use super::LINES;
 use super::Lent;
@@ -19,14 +20,22 @@ use super::expect::RIGHT;
 use super::expect::UNTOUCHED;
 use super::rewrite_case;
 use super::show_case;
+use book::SYMBOLS;
+use rewriter::LINE_WORDS;
+use rewriter::LONGEST_TAPE;
+use sets::ROW_BYTES;
+use sets::SET_WORDS;
 
-// The two pieces of the workspace.
-const ROWS: usize = 8192;
+// The longest tape, 0 1 0 1 .., has so many ones, and so many stretches.
+const ONES: usize = LONGEST_TAPE / 2;
 
-const SETS: usize = 512;
+const STRETCHES: usize = LONGEST_TAPE * (LONGEST_TAPE + 1) / 2;
+
+const TOO_LONG: usize = LONGEST_TAPE + 1;
 
 fn lend(rows: usize, sets: usize, scratch: usize, out: usize, origins: usize, lines: usize) -> Lent
-    requires { ⌜ (rows ≤ 8200) × (sets ≤ 520) × (scratch ≤ 4100) × (out ≤ 6150) × (origins ≤ 6150) × (lines ≤ 10250) ⌝ }
+    requires { ⌜ (rows ≤ rowBytes + 8) × (sets ≤ setWords + 8) × (scratch ≤ longestTape + 4) ⌝ }
+    requires { ⌜ (out ≤ 6150) × (origins ≤ 6150) × (lines ≤ 10250) ⌝ }
     ensures { λ r. ⌜ Room r ⌝ }
 {
     Lent {
@@ -43,7 +52,7 @@ fn lend(rows: usize, sets: usize, scratch: usize, out: usize, origins: usize, li
 fn ample() -> Lent
     ensures { λ r. ⌜ Room r ⌝ }
 {
-    lend(ROWS + 8, SETS + 8, SCRATCH, OUT, OUT, LINES)
+    lend(ROW_BYTES + 8, SET_WORDS + 8, SCRATCH, OUT, OUT, LINES)
 }
 
 fn accepted(tables: u8, first: usize, second: usize, third: usize) -> Want {
@@ -69,9 +78,17 @@ fn refused(tables: u8, reply: u8, place: usize) -> Want {
     }
 }
 
+// The first n bytes.
+fn front<'a>(bytes: &'a [u8], n: usize) -> &'a [u8] {
+    if n < bytes.len() {
+        return &bytes[..n];
+    }
+    bytes
+}
+
 // A book that CHECK refuses is refused by all, also beside a tape that is too long and has no symbols.
 fn refused_book(book: &[u8], reply: u8, place: usize, note: &[u8]) {
-    let tape = [16u8; 4097];
+    let tape = [SYMBOLS; TOO_LONG];
     let want = refused(UNTOUCHED, reply, place);
     check_case(book, want, note);
     build_case(book, ample(), want, note);
@@ -89,8 +106,8 @@ fn part_refused(book: &[u8], from: usize, to: usize, reply: u8, place: usize, no
 
 // PAIR from a place up to another, with the byte at a place changed.
 fn edit_case(from: usize, to: usize, at: usize, b: u8, reply: u8, place: usize, note: &[u8]) {
-    let mut book = [0u8; 29];
-    books::edited(&mut book, at, b);
+    let mut book = books::PAIR;
+    books::change(&mut book, at, b);
     part_refused(&book, from, to, reply, place, note);
 }
 
@@ -135,13 +152,17 @@ fn bad_focus_and_end() {
 fn most(rules: usize, states: usize, arcs: usize, note: &[u8]) {
     let mut book = [0u8; 3000];
     let n = books::many(&mut book, rules, states, arcs);
-    check_case(&book[..n], accepted(UNTOUCHED, rules, states, arcs), note);
+    check_case(
+        front(&book, n),
+        accepted(UNTOUCHED, rules, states, arcs),
+        note,
+    );
 }
 
 fn too_many(rules: usize, states: usize, arcs: usize, place: usize, note: &[u8]) {
     let mut book = [0u8; 3000];
     let n = books::many(&mut book, rules, states, arcs);
-    refused_book(&book[..n], 3, place, note);
+    refused_book(front(&book, n), 3, place, note);
 }
 
 fn count_cases() {
@@ -157,107 +178,109 @@ fn pair_build(book: &[u8]) {
     build_case(book, ample(), accepted(PAIR, 1, 2, 0), b"ample room");
     build_case(
         book,
-        lend(ROWS, SETS, 0, 0, 0, 0),
+        lend(ROW_BYTES, SET_WORDS, 0, 0, 0, 0),
         accepted(PAIR, 1, 2, 0),
         b"just enough",
     );
     build_case(
         book,
-        lend(ROWS - 1, SETS, 0, 0, 0, 0),
+        lend(ROW_BYTES - 1, SET_WORDS, 0, 0, 0, 0),
         refused(PAIR, 11, 0),
         b"rows too short",
     );
     build_case(
         book,
-        lend(ROWS, SETS - 1, 0, 0, 0, 0),
+        lend(ROW_BYTES, SET_WORDS - 1, 0, 0, 0, 0),
         refused(PAIR, 11, 0),
         b"sets too short",
     );
 }
 
 // The tape is 0 1 0 1, the output 0 7 8 0 7 8.
-fn pair_rewrite(book: &[u8]) {
-    let tape = [0u8, 1, 0, 1];
-    rewrite_case(book, &tape, ample(), accepted(PAIR, 6, 2, 0), b"ample room");
+fn pair_rewrite_case(lent: Lent, want: Want, note: &[u8])
+    requires { ⌜ Room lent ⌝ }
+{
+    let book = books::PAIR;
     rewrite_case(
-        book,
-        &tape,
-        lend(ROWS, SETS, 5, 6, 6, 0),
+        front(&book, books::PAIR_LENGTH),
+        &[0, 1, 0, 1],
+        lent,
+        want,
+        note,
+    );
+}
+
+fn pair_rewrite() {
+    pair_rewrite_case(ample(), accepted(PAIR, 6, 2, 0), b"ample room");
+    pair_rewrite_case(
+        lend(ROW_BYTES, SET_WORDS, 5, 6, 6, 0),
         accepted(PAIR, 6, 2, 0),
         b"just enough",
     );
-    rewrite_case(
-        book,
-        &tape,
-        lend(ROWS - 1, SETS, 4, 5, 5, 0),
+    pair_rewrite_case(
+        lend(ROW_BYTES - 1, SET_WORDS, 4, 5, 5, 0),
         refused(PAIR, 11, 0),
         b"all too short",
     );
-    rewrite_case(
-        book,
-        &tape,
-        lend(ROWS, SETS - 1, 5, 6, 6, 0),
+    pair_rewrite_case(
+        lend(ROW_BYTES, SET_WORDS - 1, 5, 6, 6, 0),
         refused(PAIR, 11, 0),
         b"sets too short",
     );
-    rewrite_case(
-        book,
-        &tape,
-        lend(ROWS, SETS, 4, 5, 5, 0),
+    pair_rewrite_case(
+        lend(ROW_BYTES, SET_WORDS, 4, 5, 5, 0),
         refused(PAIR, 12, 0),
         b"scratch too short",
     );
-    rewrite_case(
-        book,
-        &tape,
-        lend(ROWS, SETS, 5, 5, 6, 0),
+    pair_rewrite_case(
+        lend(ROW_BYTES, SET_WORDS, 5, 5, 6, 0),
         refused(PAIR, 15, 6),
         b"output too short",
     );
-    rewrite_case(
-        book,
-        &tape,
-        lend(ROWS, SETS, 5, 6, 5, 0),
+    pair_rewrite_case(
+        lend(ROW_BYTES, SET_WORDS, 5, 6, 5, 0),
         refused(PAIR, 15, 6),
         b"origins too short",
     );
 }
 
-fn pair_account(book: &[u8]) {
-    let tape = [0u8, 1, 0, 1];
-    account_case(book, &tape, ample(), accepted(PAIR, 2, 0, 0), b"ample room");
+fn pair_account_case(lent: Lent, want: Want, note: &[u8])
+    requires { ⌜ Room lent ⌝ }
+{
+    let book = books::PAIR;
     account_case(
-        book,
-        &tape,
-        lend(ROWS, SETS, 5, 0, 0, 10),
+        front(&book, books::PAIR_LENGTH),
+        &[0, 1, 0, 1],
+        lent,
+        want,
+        note,
+    );
+}
+
+fn pair_account() {
+    pair_account_case(ample(), accepted(PAIR, 2, 0, 0), b"ample room");
+    pair_account_case(
+        lend(ROW_BYTES, SET_WORDS, 5, 0, 0, 10),
         accepted(PAIR, 2, 0, 0),
         b"just enough",
     );
-    account_case(
-        book,
-        &tape,
-        lend(ROWS - 1, SETS, 4, 0, 0, 9),
+    pair_account_case(
+        lend(ROW_BYTES - 1, SET_WORDS, 4, 0, 0, 9),
         refused(PAIR, 11, 0),
         b"all too short",
     );
-    account_case(
-        book,
-        &tape,
-        lend(ROWS, SETS - 1, 5, 0, 0, 10),
+    pair_account_case(
+        lend(ROW_BYTES, SET_WORDS - 1, 5, 0, 0, 10),
         refused(PAIR, 11, 0),
         b"sets too short",
     );
-    account_case(
-        book,
-        &tape,
-        lend(ROWS, SETS, 4, 0, 0, 9),
+    pair_account_case(
+        lend(ROW_BYTES, SET_WORDS, 4, 0, 0, 9),
         refused(PAIR, 12, 0),
         b"scratch too short",
     );
-    account_case(
-        book,
-        &tape,
-        lend(ROWS, SETS, 5, 0, 0, 9),
+    pair_account_case(
+        lend(ROW_BYTES, SET_WORDS, 5, 0, 0, 9),
         refused(PAIR, 15, 10),
         b"account too short",
     );
@@ -306,33 +329,33 @@ fn tape_of(tape: &mut [u8]) {
 
 // "4,096 symbols accepted, 4,097 refused 9"
 fn longest(book: &[u8]) {
-    let mut tape = [0u8; 4096];
+    let mut tape = [0u8; LONGEST_TAPE];
     tape_of(&mut tape);
     rewrite_case(
         book,
         &tape,
         ample(),
-        accepted(PAIR, 6144, 2048, 0),
+        accepted(PAIR, LONGEST_TAPE + ONES, ONES, 0),
         b"4,096 symbols",
     );
     account_case(
         book,
         &tape,
         ample(),
-        accepted(PAIR, 2048, 0, 0),
+        accepted(PAIR, ONES, 0, 0),
         b"4,096 symbols",
     );
 }
 
 fn too_long(book: &[u8]) {
-    let mut tape = [0u8; 4097];
+    let mut tape = [0u8; TOO_LONG];
     tape_of(&mut tape);
     rewrite_case(book, &tape, ample(), refused(PAIR, 9, 0), b"4,097 symbols");
     account_case(book, &tape, ample(), refused(PAIR, 9, 0), b"4,097 symbols");
 }
 
 fn all_wrong(book: &[u8]) {
-    let tape = [16u8; 4097];
+    let tape = [SYMBOLS; TOO_LONG];
     rewrite_case(
         book,
         &tape,
@@ -349,70 +372,86 @@ fn all_wrong(book: &[u8]) {
     );
 }
 
+fn pair_book(book: &[u8]) {
+    check_case(book, accepted(PAIR, 1, 4, 1), b"a pair for each 1");
+    pair_build(book);
+    pair_rewrite();
+    pair_account();
+    longest(book);
+    too_long(book);
+    all_wrong(book);
+    bad_symbols(book);
+}
+
 fn pair_cases() {
-    let mut book = [0u8; 28];
-    books::pair(&mut book);
-    check_case(&book, accepted(PAIR, 1, 4, 1), b"a pair for each 1");
-    pair_build(&book);
-    pair_rewrite(&book);
-    pair_account(&book);
-    longest(&book);
-    too_long(&book);
-    all_wrong(&book);
-    bad_symbols(&book);
+    let book = books::PAIR;
+    pair_book(front(&book, books::PAIR_LENGTH));
 }
 
 // More than 256 sets: BUILD, REWRITE and ACCOUNT refuse, also with no room for an output; a scratch that is too short comes first.
 fn unbuilt(book: &[u8], reply: u8, note: &[u8]) {
     let want = refused(UNTOUCHED, reply, 0);
     build_case(book, ample(), want, note);
-    rewrite_case(book, &[0, 1], lend(ROWS, SETS, 3, 0, 0, 0), want, note);
-    account_case(book, &[0, 1], lend(ROWS, SETS, 3, 0, 0, 0), want, note);
     rewrite_case(
         book,
         &[0, 1],
-        lend(ROWS, SETS, 2, 0, 0, 0),
+        lend(ROW_BYTES, SET_WORDS, 3, 0, 0, 0),
+        want,
+        note,
+    );
+    account_case(
+        book,
+        &[0, 1],
+        lend(ROW_BYTES, SET_WORDS, 3, 0, 0, 0),
+        want,
+        note,
+    );
+    rewrite_case(
+        book,
+        &[0, 1],
+        lend(ROW_BYTES, SET_WORDS, 2, 0, 0, 0),
         refused(UNTOUCHED, 12, 0),
         note,
     );
 }
 
+// "A left part that asks for symbol 1 exactly" 8 "places before the present position, with a full range after it", and 9 places
 fn left_cases() {
     let mut book = [0u8; 100];
-    let n = books::left_chain(&mut book, 8);
+    let n = books::chain(&mut book, book::LEFT, book::RIGHT, 8, 0);
     build_case(
-        &book[..n],
+        front(&book, n),
         ample(),
         accepted(LEFT, 256, 1, 0),
         b"256 left sets",
     );
-    let m = books::left_chain(&mut book, 9);
-    unbuilt(&book[..m], 13, b"512 left sets");
+    let m = books::chain(&mut book, book::LEFT, book::RIGHT, 9, 0);
+    unbuilt(front(&book, m), 13, b"512 left sets");
 }
 
+// "The mirror image on the right"
 fn right_cases() {
     let mut book = [0u8; 100];
-    let n = books::right_chain(&mut book, 8);
+    let n = books::chain(&mut book, book::RIGHT, book::LEFT, 8, 7);
     build_case(
-        &book[..n],
+        front(&book, n),
         ample(),
         accepted(RIGHT, 1, 256, 0),
         b"256 right sets",
     );
-    let m = books::right_chain(&mut book, 9);
-    unbuilt(&book[..m], 14, b"512 right sets");
+    let m = books::chain(&mut book, book::RIGHT, book::LEFT, 9, 8);
+    unbuilt(front(&book, m), 14, b"512 right sets");
 }
 
-// All 4,096 symbols become nothing in one stretch, out of 4,096 * 4,097 / 2 candidates.
+// All symbols of the longest tape become nothing in one stretch; each of its stretches is a candidate.
 fn long_cases() {
-    let mut book = [0u8; 33];
-    books::long(&mut book);
-    let mut tape = [0u8; 4096];
+    let book = books::LONG;
+    let mut tape = [0u8; LONGEST_TAPE];
     tape_of(&mut tape);
     rewrite_case(
         &book,
         &tape,
-        lend(ROWS, SETS, 4097, 0, 0, 0),
+        lend(ROW_BYTES, SET_WORDS, LONGEST_TAPE + 1, 0, 0, 0),
         accepted(LONG, 0, 1, 0),
         b"an empty output",
     );
@@ -420,20 +459,17 @@ fn long_cases() {
         &book,
         &tape,
         ample(),
-        refused(LONG, 15, 41953280),
+        refused(LONG, 15, LINE_WORDS * STRETCHES),
         b"8,390,656 candidates",
     );
 }
 
-// Of the lines only the first is whole, in order and within a tape of four symbols.
 fn show_cases() {
-    let tape = [5u8, 6, 7, 8];
-    let lines = [0u16, 1, 3, 0, 1, 0, 2, 2, 0, 2, 0, 3, 5, 0, 3, 0, 0, 1, 0];
-    show_case(&tape, &lines, 0, &[6, 7], 1, b"a stretch");
-    show_case(&tape, &lines, 1, &[], 0, b"start not below end");
-    show_case(&tape, &lines, 2, &[], 0, b"end past the tape");
-    show_case(&tape, &lines, 3, &[], 0, b"a cut line");
-    show_case(&tape, &lines, usize::MAX, &[], 0, b"no such line");
+    show_case(0, &[6, 7], 1, b"a stretch");
+    show_case(1, &[], 0, b"start not below end");
+    show_case(2, &[], 0, b"end past the tape");
+    show_case(3, &[], 0, b"a cut line");
+    show_case(usize::MAX, &[], 0, b"no such line");
 }
 
 pub(crate) fn all() {

@@ -1,5 +1,10 @@
 // What document 01 says must stand in each buffer after a call, worked out by hand for each book, as a value for each element.
 ghost use Prim.Native.Nat.{_<_};
+use super::Expected;
+use rewriter::LINE_WORDS;
+use sets::MOST_SETS;
+use sets::PAIRS;
+use sets::ROW;
 
 // What stands in every element before a call.
 pub(crate) const OLD: u8 = 165;
@@ -17,11 +22,16 @@ pub(crate) const LEFT: u8 = 4;
 
 pub(crate) const RIGHT: u8 = 5;
 
-const ROW: usize = 16;
+// The buffers whose elements are compared, but for the sets.
+pub(crate) const ROWS: u8 = 0;
 
-const ROWS: usize = 4096;
+pub(crate) const SCRATCH: u8 = 1;
 
-const SETS: usize = 256;
+pub(crate) const OUT: u8 = 2;
+
+pub(crate) const ORIGINS: u8 = 3;
+
+pub(crate) const LINES: u8 = 4;
 
 // "1 to 12 change no buffer. 13 and 14 leave the workspace parts all 0 and nothing else changed. 15 leaves workspace and scratch as
 // acceptance does"
@@ -36,23 +46,23 @@ pub(crate) fn tables_after(reply: u8, tables: u8) -> u8 {
 // A chain's sets are the last eight symbols, a bit for each that is 1, in the order of their numbers: set k leads to 2 k, with
 // symbol 1 to 2 k + 1, and the ninth symbol back is forgotten.
 fn chain_row(i: usize) -> u8 {
-    let next = 2 * (i / ROW % SETS);
+    let next = 2 * (i / ROW % MOST_SETS);
     if i % ROW == 1 {
-        return ((next + 1) % SETS) as u8;
+        return ((next + 1) % MOST_SETS) as u8;
     }
-    (next % SETS) as u8
+    (next % MOST_SETS) as u8
 }
 
-pub(crate) fn row(tables: u8, i: usize) -> u8 {
-    if ROWS + ROWS <= i {
+fn row(tables: u8, i: usize) -> u8 {
+    if PAIRS + PAIRS <= i {
         return OLD;
     }
     match tables {
         UNTOUCHED => OLD,
         PAIR => pair_row(i),
         LONG => long_row(i),
-        LEFT => { if i < ROWS { chain_row(i) } else { 0 } }
-        RIGHT => { if i < ROWS { 0 } else { chain_row(i - ROWS) } }
+        LEFT => { if i < PAIRS { chain_row(i) } else { 0 } }
+        RIGHT => { if i < PAIRS { 0 } else { chain_row(i - PAIRS) } }
         _ => 0,
     }
 }
@@ -60,35 +70,35 @@ pub(crate) fn row(tables: u8, i: usize) -> u8 {
 // PAIR and LONG have one left set. Right set 0 holds the accepting focus state and the right state, set 1 the starting one too.
 // Symbol 1 in front gives set 1 in PAIR, any symbol in LONG.
 fn pair_row(i: usize) -> u8 {
-    if i == ROWS + 1 {
+    if i == PAIRS + 1 {
         return 1;
     }
-    if i == ROWS + ROW + 1 { 1 } else { 0 }
+    if i == PAIRS + ROW + 1 { 1 } else { 0 }
 }
 
 fn long_row(i: usize) -> u8 {
-    if i < ROWS {
+    if i < PAIRS {
         return 0;
     }
-    if i < ROWS + 2 * ROW { 1 } else { 0 }
+    if i < PAIRS + 2 * ROW { 1 } else { 0 }
 }
 
 fn small_set(i: usize) -> u64 {
     if i == 0 {
         return 1;
     }
-    if i == SETS {
+    if i == MOST_SETS {
         return 12;
     }
-    if i == SETS + 1 { 14 } else { 0 }
+    if i == MOST_SETS + 1 { 14 } else { 0 }
 }
 
 // State 0 always, state j where the symbol j places back is 1; on the right one set of state 9.
 fn left_set(i: usize) -> u64 {
-    if i < SETS {
+    if i < MOST_SETS {
         return 2 * (i as u64) + 1;
     }
-    if i == SETS { 512 } else { 0 }
+    if i == MOST_SETS { 512 } else { 0 }
 }
 
 // State 8 always, state 7 - j where the symbol j places on is 1; on the left one set of state 9.
@@ -96,10 +106,10 @@ fn right_set(i: usize) -> u64 {
     if i == 0 {
         return 512;
     }
-    if i < SETS {
+    if i < MOST_SETS {
         0
     } else {
-        256 + mirrored(i - SETS)
+        256 + mirrored(i - MOST_SETS)
     }
 }
 
@@ -119,7 +129,7 @@ fn mirrored(number: usize) -> u64
 }
 
 pub(crate) fn set(tables: u8, i: usize) -> u64 {
-    if SETS + SETS <= i {
+    if MOST_SETS + MOST_SETS <= i {
         return OLD as u64;
     }
     match tables {
@@ -138,7 +148,7 @@ pub(crate) fn symbol(i: usize) -> u8 {
 }
 
 // "Scratch byte i, for i from 0 to n, is the number of the right set at i."
-pub(crate) fn scratch(tables: u8, n: usize, i: usize) -> u8 {
+fn scratch(tables: u8, n: usize, i: usize) -> u8 {
     if n < i {
         return OLD;
     }
@@ -150,7 +160,10 @@ pub(crate) fn scratch(tables: u8, n: usize, i: usize) -> u8 {
 }
 
 // PAIR's output is 0 7 8 0 7 8 .., of which 7 and 8 stand for the 1 at an odd position.
-pub(crate) fn output(i: usize) -> u8 {
+fn output(front: usize, i: usize) -> u8 {
+    if front <= i {
+        return OLD;
+    }
     match i % 3 {
         0 => 0,
         1 => 7,
@@ -158,7 +171,10 @@ pub(crate) fn output(i: usize) -> u8 {
     }
 }
 
-pub(crate) fn origin(i: usize) -> usize {
+fn origin(front: usize, i: usize) -> usize {
+    if front <= i {
+        return OLD as usize;
+    }
     if i % 3 == 0 {
         return i / 3 * 2;
     }
@@ -166,12 +182,31 @@ pub(crate) fn origin(i: usize) -> usize {
 }
 
 // PAIR's account: each 1, at the odd positions, is a candidate of rule 0, and taken.
-pub(crate) fn word(i: usize) -> usize {
-    let start = i / 5 * 2 + 1;
-    match i % 5 {
+fn line_word(front: usize, i: usize) -> usize {
+    if front <= i / LINE_WORDS {
+        return OLD as usize;
+    }
+    let start = i / LINE_WORDS * 2 + 1;
+    match i % LINE_WORDS {
         1 => start,
         2 => start + 1,
         4 => start,
         _ => 0,
     }
+}
+
+pub(crate) fn byte(e: Expected, i: usize) -> u8 {
+    let buffer = e.buffer;
+    match buffer {
+        ROWS => row(e.tables, i),
+        SCRATCH => scratch(e.tables, e.front, i),
+        _ => output(e.front, i),
+    }
+}
+
+pub(crate) fn word(e: Expected, i: usize) -> usize {
+    if e.buffer == ORIGINS {
+        return origin(e.front, i);
+    }
+    line_word(e.front, i)
 }

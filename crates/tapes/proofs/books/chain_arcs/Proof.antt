@@ -1,5 +1,5 @@
--- The place stays within the book's buffer; the measure is the arcs left. Assumes nothing.
-use Prim.Native.Nat.{_-_, _≤_}
+-- The book's buffer keeps its length; the measure is the arcs left. Assumes nothing.
+use Prim.Native.Nat.{_-_}
 use mathlib.Core.Path.{_≡_}
 use borrow.Author.Needs.{needs}
 use lib.ListN.{length}
@@ -7,7 +7,7 @@ use Rattle.tapes.proofs.books.chain_arcs.Statement.{statement}
 use Rattle.tapes.proofs.books.chain_arcs.Tie as tie
 
 abbrev Inv-loop : tie.InvT-loop
-Inv-loop book₀ from k asked at₀ j₀ book at j = (at ≤ length book₀) × (length book ≡ length book₀)
+Inv-loop book₀ from k asked at₀ j₀ book at j = length book ≡ length book₀
 
 abbrev μ-loop : tie.MeasureT-loop
 μ-loop book₀ from k asked at₀ j₀ book at j = k - j
@@ -17,6 +17,12 @@ loop-holds c = search needs
 
 chain-arc-requires : tie.Need-chain-arc-requires Inv-loop μ-loop
 chain-arc-requires c κs = search needs
+
+slice-aggregate-put : tie.Need-slice-aggregate-put Inv-loop μ-loop
+slice-aggregate-put c = search needs
+
+put-requires : tie.Need-put-requires Inv-loop μ-loop
+put-requires c κs = search needs
 
 add-j : tie.Need-add-j Inv-loop μ-loop
 add-j c = search needs
@@ -41,6 +47,8 @@ chain-arcs-spec =
     μ-loop
     loop-holds
     chain-arc-requires
+    slice-aggregate-put
+    put-requires
     add-j
     loop-less
     loop-again

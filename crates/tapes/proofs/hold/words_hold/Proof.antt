@@ -1,15 +1,15 @@
--- The measure is what is left of the lines. Assumes nothing.
+-- The measure is what is left of the words. Assumes nothing.
 use Prim.Native.Nat.{_-_, _≤_}
 use borrow.Author.Needs.{needs}
 use lib.ListN.{length}
-use Rattle.tapes.proofs.hold.lines_hold.Statement.{statement}
-use Rattle.tapes.proofs.hold.lines_hold.Tie as tie
+use Rattle.tapes.proofs.hold.words_hold.Statement.{statement}
+use Rattle.tapes.proofs.hold.words_hold.Tie as tie
 
 abbrev Inv-loop : tie.InvT-loop
-Inv-loop lines front i₀ i = i ≤ length lines
+Inv-loop words e i₀ i = i ≤ length words
 
 abbrev μ-loop : tie.MeasureT-loop
-μ-loop lines front i₀ i = length lines - i
+μ-loop words e i₀ i = length words - i
 
 loop-holds : tie.Need-loop-holds Inv-loop μ-loop
 loop-holds c = search needs
@@ -23,8 +23,8 @@ shared-slice-read-wide c = search needs
 wide-requires : tie.Need-wide-requires Inv-loop μ-loop
 wide-requires c κs = search needs
 
-word-at-requires : tie.Need-word-at-requires Inv-loop μ-loop
-word-at-requires c κs = search needs
+word-requires : tie.Need-word-requires Inv-loop μ-loop
+word-requires c κs = search needs
 
 returns : tie.Need-returns Inv-loop μ-loop
 returns c = search needs
@@ -41,8 +41,8 @@ loop-again c = search needs
 returns-2 : tie.Need-returns-2 Inv-loop μ-loop
 returns-2 c = search needs
 
-pub lines-hold-spec : {M : Type 1} → statement M
-lines-hold-spec =
+pub words-hold-spec : {M : Type 1} → statement M
+words-hold-spec =
     tie.close
     (tie.spec
     Inv-loop
@@ -51,7 +51,7 @@ lines-hold-spec =
     mul-wide
     shared-slice-read-wide
     wide-requires
-    word-at-requires
+    word-requires
     returns
     add-i
     loop-less

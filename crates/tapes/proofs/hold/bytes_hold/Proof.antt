@@ -1,15 +1,15 @@
--- The measure is what is left of the scratch. Assumes nothing.
+-- The measure is what is left of the bytes. Assumes nothing.
 use Prim.Native.Nat.{_-_, _≤_}
 use borrow.Author.Needs.{needs}
 use lib.ListN.{length}
-use Rattle.tapes.proofs.hold.scratch_holds.Statement.{statement}
-use Rattle.tapes.proofs.hold.scratch_holds.Tie as tie
+use Rattle.tapes.proofs.hold.bytes_hold.Statement.{statement}
+use Rattle.tapes.proofs.hold.bytes_hold.Tie as tie
 
 abbrev Inv-loop : tie.InvT-loop
-Inv-loop scratch tables n i₀ i = i ≤ length scratch
+Inv-loop bytes e i₀ i = i ≤ length bytes
 
 abbrev μ-loop : tie.MeasureT-loop
-μ-loop scratch tables n i₀ i = length scratch - i
+μ-loop bytes e i₀ i = length bytes - i
 
 loop-holds : tie.Need-loop-holds Inv-loop μ-loop
 loop-holds c = search needs
@@ -17,8 +17,8 @@ loop-holds c = search needs
 shared-slice-read-if1 : tie.Need-shared-slice-read-if1 Inv-loop μ-loop
 shared-slice-read-if1 c = search needs
 
-scratch-requires : tie.Need-scratch-requires Inv-loop μ-loop
-scratch-requires c κs = search needs
+byte-requires : tie.Need-byte-requires Inv-loop μ-loop
+byte-requires c κs = search needs
 
 returns : tie.Need-returns Inv-loop μ-loop
 returns c = search needs
@@ -35,15 +35,15 @@ loop-again c = search needs
 returns-2 : tie.Need-returns-2 Inv-loop μ-loop
 returns-2 c = search needs
 
-pub scratch-holds-spec : {M : Type 1} → statement M
-scratch-holds-spec =
+pub bytes-hold-spec : {M : Type 1} → statement M
+bytes-hold-spec =
     tie.close
     (tie.spec
     Inv-loop
     μ-loop
     loop-holds
     shared-slice-read-if1
-    scratch-requires
+    byte-requires
     returns
     add-i
     loop-less

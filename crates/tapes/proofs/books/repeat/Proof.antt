@@ -1,22 +1,22 @@
--- The place stays within the book's buffer; the measure is the states left. Assumes nothing.
-use Prim.Native.Nat.{_-_, _≤_}
+-- The book's buffer keeps its length; the measure is the times left. Assumes nothing.
+use Prim.Native.Nat.{_-_}
 use mathlib.Core.Path.{_≡_}
 use borrow.Author.Needs.{needs}
 use lib.ListN.{length}
-use Rattle.tapes.proofs.books.states.Statement.{statement}
-use Rattle.tapes.proofs.books.states.Tie as tie
+use Rattle.tapes.proofs.books.repeat.Statement.{statement}
+use Rattle.tapes.proofs.books.repeat.Tie as tie
 
 abbrev Inv-loop : tie.InvT-loop
-Inv-loop book₀ from n at₀ i₀ book at i = (at ≤ length book₀) × (length book ≡ length book₀)
+Inv-loop book₀ from bytes n at₀ i₀ book at i = length book ≡ length book₀
 
 abbrev μ-loop : tie.MeasureT-loop
-μ-loop book₀ from n at₀ i₀ book at i = n - i
+μ-loop book₀ from bytes n at₀ i₀ book at i = n - i
 
 loop-holds : tie.Need-loop-holds Inv-loop μ-loop
 loop-holds c = search needs
 
-state-requires : tie.Need-state-requires Inv-loop μ-loop
-state-requires c κs = search needs
+put-requires : tie.Need-put-requires Inv-loop μ-loop
+put-requires c κs = search needs
 
 add-i : tie.Need-add-i Inv-loop μ-loop
 add-i c = search needs
@@ -33,14 +33,14 @@ same-length c = search needs
 returns : tie.Need-returns Inv-loop μ-loop
 returns c = search needs
 
-pub states-spec : {M : Type 1} → statement M
-states-spec =
+pub repeat-spec : {M : Type 1} → statement M
+repeat-spec =
     tie.close
     (tie.spec
     Inv-loop
     μ-loop
     loop-holds
-    state-requires
+    put-requires
     add-i
     loop-less
     loop-again
