@@ -111,8 +111,8 @@ fn flagged(flag: u8, flags: u8) -> bool
     }
 }
 
-// The worth of state k, whose record stands at `at`, if it is of that part with that flag; else 0.
-fn worth(s: &[u8], at: usize, part: u8, flag: u8, k: usize) -> u64
+// The bit of state k, whose record stands at `at`, if it is of that part with that flag; else 0.
+fn state_bit(s: &[u8], at: usize, part: u8, flag: u8, k: usize) -> u64
     requires { ⌜ (at + stateSize ≤ length (now s)) × (k < mostStates) ⌝ }
     ensures { λ r. ⌜ r ≡ cond (passes part flag (byte (now (s .entry)) (at + partAt)) (byte (now (s .entry)) (at + flagsAt))) (2 ^ k) 0 ⌝ }
 {
@@ -143,7 +143,7 @@ pub fn mask_states(s: &[u8], part: u8, flag: u8) -> Masks
         match kind {
             super::RULE => rules += 1,
             super::STATE => {
-                let bit = worth(s, at, part, flag, states);
+                let bit = state_bit(s, at, part, flag, states);
                 let r = rules - 1;
                 out.each[r] = out.each[r] | bit;
                 out.all = out.all | bit;

@@ -32,8 +32,8 @@ add-rules c =
     let i = c .before .before .loop .inv in
     omega (arith, i .2 .many, i .1 .sound .rules)
 
-worth-requires : tie.Need-worth-requires Inv-loop μ-loop
-worth-requires c κs =
+state-bit-requires : tie.Need-state-bit-requires Inv-loop μ-loop
+state-bit-requires c κs =
     let i = c .before .before .loop .inv in
     let k = c .match .keys2 in
     let z = state-rule _ _ _ _ (i .1) k in
@@ -128,7 +128,7 @@ mask-states-spec =
     loop-holds
     shared-slice-read-kind
     add-rules
-    worth-requires
+    state-bit-requires
     sub-r
     mul-out
     element-copy-out-out

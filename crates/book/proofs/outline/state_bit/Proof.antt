@@ -1,10 +1,10 @@
--- `outline::worth` meets its contract: part and flag decide, and a shift by k is 2 ^ k. Assumes nothing.
+-- `outline::state_bit` meets its contract: part and flag decide, and a shift by k is 2 ^ k. Assumes nothing.
 use mathlib.Core.Path.{sym, _∙_}
 use borrow.Author.Tests.{eq-eqb, ne-eqb}
 use Rattle.book.proofs.Bits as laws
 use borrow.Author.Needs.{needs}
-use Rattle.book.proofs.outline.worth.Statement.{statement}
-use Rattle.book.proofs.outline.worth.Tie as tie
+use Rattle.book.proofs.outline.state_bit.Statement.{statement}
+use Rattle.book.proofs.outline.state_bit.Tie as tie
 
 add-if1 : tie.Need-add-if1
 add-if1 c = search needs
@@ -33,8 +33,8 @@ returns-2 c = laws.worth _ (search needs) ∙ simp (eq-eqb _ _ (c .before .befor
 returns-3 : tie.Need-returns-3
 returns-3 c = simp (eq-eqb _ _ (c .before .before .before .if1 .left), sym (c .before .flagged .ensures) ∙ c .if2 .left)
 
-pub worth-spec : {M : Type 1} → statement M
-worth-spec =
+pub state-bit-spec : {M : Type 1} → statement M
+state-bit-spec =
     tie.close
     (tie.spec
     add-if1
