@@ -8,6 +8,7 @@ use native.Mathlib.Omega.{arith}
 use native.Mathlib.Decide.{decLt}
 use lib.Dec.{T, eqb, leb, eqb→eq, eqb-refl}
 use lib.ListN.{length, List·getD-eq-default}
+use Rattle.book.specs.Format.{leftPart, focusPart, rightPart, startFlag, acceptFlag}
 use Rattle.book.specs.Reading.{Arc, Book}
 use Rattle.book.specs.Language.{upFrom, opens, leads, noState, stateOf, flagged, isOf, starts, ends, isStart, isAccept, someState, accepts, someEnd, someFront}
 use Rattle.book.specs.Sound.{Sound}
@@ -28,8 +29,8 @@ machine b = record {
   Step = ArcStep b;
   rule = λ (s : ℕ). stateOf b s .rule;
   part = λ (s : ℕ). stateOf b s .part;
-  Begin = λ (s : ℕ). T (flagged 1 (stateOf b s .flags));
-  End = λ (s : ℕ). T (flagged 2 (stateOf b s .flags));
+  Begin = λ (s : ℕ). T (flagged startFlag (stateOf b s .flags));
+  End = λ (s : ℕ). T (flagged acceptFlag (stateOf b s .flags));
 }
 
 pub opens-from : (x : Arc) (p a : ℕ) → T (opens x p a) → x .from ≡ p
@@ -69,22 +70,22 @@ module _ (b : Book) where
   pub starts-out : (part s : ℕ) → T (starts b part s) → Start (machine b) (stateOf b s .rule) part s
   starts-out part s t = let x = stateOf b s in record {
     of = refl;
-    in-part = eqb→eq (x .part) part (and-left (eqb (x .part) part) (flagged 1 (x .flags)) t);
-    is = and-right (eqb (x .part) part) (flagged 1 (x .flags)) t;
+    in-part = eqb→eq (x .part) part (and-left (eqb (x .part) part) (flagged startFlag (x .flags)) t);
+    is = and-right (eqb (x .part) part) (flagged startFlag (x .flags)) t;
   }
 
   pub starts-in : {r part s : ℕ} → Start (machine b) r part s → T (starts b part s)
-  starts-in {r} {part} {s} h = let x = stateOf b s in and-both (eqb (x .part) part) (flagged 1 (x .flags)) (eqb-in (h .in-part)) (h .is)
+  starts-in {r} {part} {s} h = let x = stateOf b s in and-both (eqb (x .part) part) (flagged startFlag (x .flags)) (eqb-in (h .in-part)) (h .is)
 
   pub ends-out : (part s : ℕ) → T (ends b part s) → Accept (machine b) (stateOf b s .rule) part s
   ends-out part s t = let x = stateOf b s in record {
     of = refl;
-    in-part = eqb→eq (x .part) part (and-left (eqb (x .part) part) (flagged 2 (x .flags)) t);
-    is = and-right (eqb (x .part) part) (flagged 2 (x .flags)) t;
+    in-part = eqb→eq (x .part) part (and-left (eqb (x .part) part) (flagged acceptFlag (x .flags)) t);
+    is = and-right (eqb (x .part) part) (flagged acceptFlag (x .flags)) t;
   }
 
   pub ends-in : {r part s : ℕ} → Accept (machine b) r part s → T (ends b part s)
-  ends-in {r} {part} {s} h = let x = stateOf b s in and-both (eqb (x .part) part) (flagged 2 (x .flags)) (eqb-in (h .in-part)) (h .is)
+  ends-in {r} {part} {s} h = let x = stateOf b s in and-both (eqb (x .part) part) (flagged acceptFlag (x .flags)) (eqb-in (h .in-part)) (h .is)
 
   -- and of a given rule
   pub start-out : (r part s : ℕ) → T (isStart b r part s) → Start (machine b) r part s
@@ -118,10 +119,10 @@ module _ (b : Book) where
           absurd (subst T (ap (isOf part flag) (List·getD-eq-default (b .states) noState g) ∙ no-state part flag) t)
 
   pub start-known : {r part s : ℕ} → Start (machine b) r part s → s < length (b .states)
-  start-known {part = part} {s = s} h = known part 1 s (starts-in h)
+  start-known {part = part} {s = s} h = known part startFlag s (starts-in h)
 
   pub accept-known : {r part s : ℕ} → Accept (machine b) r part s → s < length (b .states)
-  accept-known {part = part} {s = s} h = known part 2 s (ends-in h)
+  accept-known {part = part} {s = s} h = known part acceptFlag s (ends-in h)
 
   -- some state passes two tests
   pub some-out : (f g : ℕ → Bool) → T (someState b (λ (s : ℕ). f s && g s)) → (s : ℕ) × T (f s) × T (g s)
@@ -148,34 +149,34 @@ module _ (b : Book) where
       (some-in (isAccept b r part) (leads (b .arcs) (h .from) w) (h .to) (accept-known (h .accept)) (accept-in (h .accept)) (leads-in (h .run)))
 
   -- the contexts
-  pub left-iff : (r : ℕ) (w : List ℕ) → T (someEnd (accepts b r 0) w) ↔ LeftHolds (machine b) r w
+  pub left-iff : (r : ℕ) (w : List ℕ) → T (someEnd (accepts b r leftPart) w) ↔ LeftHolds (machine b) r w
   left-iff r w = (
-    λ t. let z = end-out (accepts b r 0) w t in record { front = z .0; word = z .1; cut = z .2; accepts = accepts-out r 0 (z .1) (z .3) },
-    λ h. end-in (accepts b r 0) (h .cut) (accepts-in (h .accepts)),
+    λ t. let z = end-out (accepts b r leftPart) w t in record { front = z .0; word = z .1; cut = z .2; accepts = accepts-out r leftPart (z .1) (z .3) },
+    λ h. end-in (accepts b r leftPart) (h .cut) (accepts-in (h .accepts)),
   )
 
-  pub right-iff : (r : ℕ) (w : List ℕ) → T (someFront (accepts b r 2) w) ↔ RightHolds (machine b) r w
+  pub right-iff : (r : ℕ) (w : List ℕ) → T (someFront (accepts b r rightPart) w) ↔ RightHolds (machine b) r w
   right-iff r w = (
-    λ t. let z = front-out (accepts b r 2) w t in record { word = z .0; rest = z .1; cut = z .2; accepts = accepts-out r 2 (z .0) (z .3) },
-    λ h. front-in (accepts b r 2) (h .cut) (accepts-in (h .accepts)),
+    λ t. let z = front-out (accepts b r rightPart) w t in record { word = z .0; rest = z .1; cut = z .2; accepts = accepts-out r rightPart (z .0) (z .3) },
+    λ h. front-in (accepts b r rightPart) (h .cut) (accepts-in (h .accepts)),
   )
 
   -- the three languages of a rule
-  pub applies-iff : (r : ℕ) (l f w : List ℕ) → T (accepts b r 1 f && someEnd (accepts b r 0) l && someFront (accepts b r 2) w) ↔ Applies (machine b) l f w r
+  pub applies-iff : (r : ℕ) (l f w : List ℕ) → T (accepts b r focusPart f && someEnd (accepts b r leftPart) l && someFront (accepts b r rightPart) w) ↔ Applies (machine b) l f w r
   applies-iff r l f w = (
     λ t. record {
       left = left-iff r l .0 (and-right F L (and-left (F && L) W t));
-      focus = accepts-out r 1 f (and-left F L (and-left (F && L) W t));
+      focus = accepts-out r focusPart f (and-left F L (and-left (F && L) W t));
       right = right-iff r w .0 (and-right (F && L) W t);
     },
     λ h. and-both (F && L) W (and-both F L (accepts-in (h .focus)) (left-iff r l .1 (h .left))) (right-iff r w .1 (h .right)),
   )
     where
       F : Bool
-      F = accepts b r 1 f
+      F = accepts b r focusPart f
 
       L : Bool
-      L = someEnd (accepts b r 0) l
+      L = someEnd (accepts b r leftPart) l
 
       W : Bool
-      W = someFront (accepts b r 2) w
+      W = someFront (accepts b r rightPart) w

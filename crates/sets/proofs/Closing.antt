@@ -12,7 +12,7 @@ use lib.Bits.{bitOr, bitAnd, and-le-r}
 use lib.Count.{trailingZeros}
 use lib.ListN.{length, getD, List·getD-eq-default}
 use borrow.Author.Tests.{eq-eqb, ne-eqb, lt-ltb, le-ltb}
-use Rattle.book.specs.Format.{mostRules, mostStates}
+use Rattle.book.specs.Format.{leftPart, focusPart, rightPart, startFlag, acceptFlag, fromAt, toAt, mostRules, mostStates}
 use Rattle.book.specs.Reading.{State, Arc, Book}
 use Rattle.book.specs.Language.{any, someState, opens, noState, stateOf, isOf, starts, ends, isStart, isAccept}
 use Rattle.book.specs.Outline.{ruleMask, allMask, EachMask}
@@ -62,7 +62,7 @@ eqb-sym x y = go (ℕ-discrete x y)
     go (no f) = ne-eqb _ _ f ∙ sym (ne-eqb _ _ (λ e. f (sym e)))
 
 step-into : (arcs : List Arc) (X c s : ℕ)
-    → any (λ a. leaves X c a && eqb s (a .to)) (map (turned 1 4) arcs) ≡ any (λ (x : Arc). member X (x .from) && (opens x (x .from) c && eqb (x .to) s)) arcs
+    → any (λ a. leaves X c a && eqb s (a .to)) (map (turned fromAt toAt) arcs) ≡ any (λ (x : Arc). member X (x .from) && (opens x (x .from) c && eqb (x .to) s)) arcs
 unfolding turned
 step-into [] X c s = refl
 step-into (a ∷ arcs) X c s =
@@ -71,7 +71,7 @@ step-into (a ∷ arcs) X c s =
     (step-into arcs X c s)
 
 step-back : (arcs : List Arc) (X c s : ℕ)
-    → any (λ a. leaves X c a && eqb s (a .to)) (map (turned 4 1) arcs) ≡ any (λ (x : Arc). opens x s c && member X (x .to)) arcs
+    → any (λ a. leaves X c a && eqb s (a .to)) (map (turned toAt fromAt) arcs) ≡ any (λ (x : Arc). opens x s c && member X (x .to)) arcs
 unfolding turned
 step-back [] X c s = refl
 step-back (a ∷ arcs) X c s =
@@ -79,13 +79,13 @@ step-back (a ∷ arcs) X c s =
     (back-one (member X (a .to)) (leb (a .low) c) (leb c (a .high)) (eqb s (a .from)) (eqb (a .from) s) (eqb-sym s (a .from)))
     (step-back arcs X c s)
 
-pub member-into : (b : Book) (X c s : ℕ) → member (stepArcs 1 4 (b .arcs) X c) s ≡ intoBy b X c s
+pub member-into : (b : Book) (X c s : ℕ) → member (stepArcs fromAt toAt (b .arcs) X c) s ≡ intoBy b X c s
 unfolding stepArcs intoBy
-member-into b X c s = member-step c (map (turned 1 4) (b .arcs)) X s ∙ step-into (b .arcs) X c s
+member-into b X c s = member-step c (map (turned fromAt toAt) (b .arcs)) X s ∙ step-into (b .arcs) X c s
 
-pub member-back : (b : Book) (X c s : ℕ) → member (stepArcs 4 1 (b .arcs) X c) s ≡ backBy b X c s
+pub member-back : (b : Book) (X c s : ℕ) → member (stepArcs toAt fromAt (b .arcs) X c) s ≡ backBy b X c s
 unfolding stepArcs backBy
-member-back b X c s = member-step c (map (turned 4 1) (b .arcs)) X s ∙ step-back (b .arcs) X c s
+member-back b X c s = member-step c (map (turned toAt fromAt) (b .arcs)) X s ∙ step-back (b .arcs) X c s
 
 -- no arc leads to what is no state, and none leaves it
 any-none : (f : Arc → Bool) (arcs : List Arc) → ((j : ℕ) → j < length arcs → f (getD arcs j noArc) ≡ false) → any f arcs ≡ false
@@ -107,12 +107,12 @@ back-past b X c s o h =
 or-false : (x y : Bool) → x ≡ false → y ≡ false → (x || y) ≡ false
 or-false x y e f = ap₂ (λ (p q : Bool). p || q) e f
 
-pub left-next : (b : Book) (X c : ℕ) → Sound b → bitOr (allMask 0 1 (b .states)) (stepArcs 1 4 (b .arcs) X c) ≡ leftNext b X c
+pub left-next : (b : Book) (X c : ℕ) → Sound b → bitOr (allMask leftPart startFlag (b .states)) (stepArcs fromAt toAt (b .arcs) X c) ≡ leftNext b X c
 unfolding leftNext
 left-next b X c o =
-    ext _ _ (λ s. member-or (allMask 0 1 (b .states)) (stepArcs 1 4 (b .arcs) X c) s
-    ∙ ap₂ (λ (p q : Bool). p || q) (member-all b o 0 1 s) (member-into b X c s)
-    ∙ sym (member-of b o (λ k. starts b 0 k || intoBy b X c k) (λ k h. or-false (starts b 0 k) (intoBy b X c k) (none-of b 0 1 k h) (into-past b X c k o h)) s))
+    ext _ _ (λ s. member-or (allMask leftPart startFlag (b .states)) (stepArcs fromAt toAt (b .arcs) X c) s
+    ∙ ap₂ (λ (p q : Bool). p || q) (member-all b o leftPart startFlag s) (member-into b X c s)
+    ∙ sym (member-of b o (λ k. starts b leftPart k || intoBy b X c k) (λ k h. or-false (starts b leftPart k) (intoBy b X c k) (none-of b leftPart startFlag k h) (into-past b X c k o h)) s))
 
 -- ---- the closure
 
@@ -154,36 +154,36 @@ module _ (b : Book) (o : Sound b) (p₁ f₁ p₂ f₂ : ℕ) (x : ℕ) (S A : L
       ∙ ap (λ (t : Bool). t && (isOf p₂ f₂ (stateOf b s) && K (stateOf b s .rule))) (lt-ltb _ _ (rule-small s (decLt s (length (b .states)))))
 
 close-is : (b : Book) (o : Sound b) (f : ℕ → Bool) → ((s : ℕ) → length (b .states) ≤ s → f s ≡ false) → (x : ℕ) → ((s : ℕ) → member x s ≡ near b f s)
-    → (S A : List ℕ) → EachMask 2 1 (b .states) S → EachMask 1 2 (b .states) A → bitOr x (gather mostRules x S A) ≡ closed b f
+    → (S A : List ℕ) → EachMask rightPart startFlag (b .states) S → EachMask focusPart acceptFlag (b .states) A → bitOr x (gather mostRules x S A) ≡ closed b f
 unfolding closed isStart
 close-is b o f past x is S A ms ma =
     ext _ _ (λ s. member-or x (gather mostRules x S A) s
     ∙ ap₂ (λ (p q : Bool). p || q) (is s)
-    (member-gather b o 2 1 1 2 x S A ms ma s ∙ ap (λ (g : ℕ → Bool). ends b 1 s && someState b (λ (p : ℕ). isStart b (stateOf b s .rule) 2 p && g p)) (λ i p. is p i))
-    ∙ sym (member-of b o (λ k. near b f k || (ends b 1 k && K′ k))
-    (λ k h. or-false (near b f k) (ends b 1 k && K′ k) (or-false (f k) (ends b 2 k) (past k h) (none-of b 2 2 k h)) (ap (λ (p : Bool). p && K′ k) (none-of b 1 2 k h))) s))
+    (member-gather b o rightPart startFlag focusPart acceptFlag x S A ms ma s ∙ ap (λ (g : ℕ → Bool). ends b focusPart s && someState b (λ (p : ℕ). isStart b (stateOf b s .rule) rightPart p && g p)) (λ i p. is p i))
+    ∙ sym (member-of b o (λ k. near b f k || (ends b focusPart k && K′ k))
+    (λ k h. or-false (near b f k) (ends b focusPart k && K′ k) (or-false (f k) (ends b rightPart k) (past k h) (none-of b rightPart acceptFlag k h)) (ap (λ (p : Bool). p && K′ k) (none-of b focusPart acceptFlag k h))) s))
   where
     K′ : ℕ → Bool
-    K′ k = someState b (λ (p : ℕ). isStart b (stateOf b k .rule) 2 p && near b f p)
+    K′ k = someState b (λ (p : ℕ). isStart b (stateOf b k .rule) rightPart p && near b f p)
 
-pub right-prev : (b : Book) (X c x : ℕ) (S A : List ℕ) → Sound b → x ≡ bitOr (allMask 2 2 (b .states)) (stepArcs 4 1 (b .arcs) X c)
-    → EachMask 2 1 (b .states) S → EachMask 1 2 (b .states) A → bitOr x (gather mostRules x S A) ≡ rightPrev b X c
+pub right-prev : (b : Book) (X c x : ℕ) (S A : List ℕ) → Sound b → x ≡ bitOr (allMask rightPart acceptFlag (b .states)) (stepArcs toAt fromAt (b .arcs) X c)
+    → EachMask rightPart startFlag (b .states) S → EachMask focusPart acceptFlag (b .states) A → bitOr x (gather mostRules x S A) ≡ rightPrev b X c
 unfolding rightPrev
 right-prev b X c x S A o e ms ma =
     close-is b o (backBy b X c) (λ s h. back-past b X c s o h) x
-    (λ s. ap (λ (y : ℕ). member y s) e ∙ member-or (allMask 2 2 (b .states)) (stepArcs 4 1 (b .arcs) X c) s
-    ∙ ap₂ (λ (p q : Bool). p || q) (member-all b o 2 2 s) (member-back b X c s) ∙ B.or-comm (ends b 2 s) (backBy b X c s))
+    (λ s. ap (λ (y : ℕ). member y s) e ∙ member-or (allMask rightPart acceptFlag (b .states)) (stepArcs toAt fromAt (b .arcs) X c) s
+    ∙ ap₂ (λ (p q : Bool). p || q) (member-all b o rightPart acceptFlag s) (member-back b X c s) ∙ B.or-comm (ends b rightPart s) (backBy b X c s))
     S A ms ma
 
-pub right-last : (b : Book) (x : ℕ) (S A : List ℕ) → Sound b → x ≡ allMask 2 2 (b .states) → EachMask 2 1 (b .states) S → EachMask 1 2 (b .states) A → bitOr x (gather mostRules x S A) ≡ rightLast b
+pub right-last : (b : Book) (x : ℕ) (S A : List ℕ) → Sound b → x ≡ allMask rightPart acceptFlag (b .states) → EachMask rightPart startFlag (b .states) S → EachMask focusPart acceptFlag (b .states) A → bitOr x (gather mostRules x S A) ≡ rightLast b
 unfolding rightLast
-right-last b x S A o e ms ma = close-is b o (λ s. false) (λ s h. refl) x (λ s. ap (λ (y : ℕ). member y s) e ∙ member-all b o 2 2 s) S A ms ma
+right-last b x S A o e ms ma = close-is b o (λ s. false) (λ s h. refl) x (λ s. ap (λ (y : ℕ). member y s) e ∙ member-all b o rightPart acceptFlag s) S A ms ma
 
-pub left-first : (b : Book) → Sound b → allMask 0 1 (b .states) ≡ leftFirst b
+pub left-first : (b : Book) → Sound b → allMask leftPart startFlag (b .states) ≡ leftFirst b
 unfolding leftFirst
-left-first b o = ext _ _ (λ s. member-all b o 0 1 s ∙ sym (member-of b o (starts b 0) (λ k h. none-of b 0 1 k h) s))
+left-first b o = ext _ _ (λ s. member-all b o leftPart startFlag s ∙ sym (member-of b o (starts b leftPart) (λ k h. none-of b leftPart startFlag k h) s))
 
 -- the step along the arcs
-pub step-is : (b : Book) (F a : ℕ) → Sound b → stepArcs 1 4 (b .arcs) F a ≡ focusStep b F a
+pub step-is : (b : Book) (F a : ℕ) → Sound b → stepArcs fromAt toAt (b .arcs) F a ≡ focusStep b F a
 unfolding focusStep
 step-is b F a o = ext _ _ (λ s. member-into b F a s ∙ sym (member-of b o (intoBy b F a) (λ k h. into-past b F a k o h) s))

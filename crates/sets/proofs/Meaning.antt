@@ -13,6 +13,7 @@ use lib.Dec.{T, eqb, ltb}
 use lib.Bits.{bitAnd, bitOr}
 use lib.ListN.{length, getD, take, drop, length-take, length-drop}
 use lib.Seq.{slice, slice-empty, take-suc, drop-cons, drop-length, drop-drop}
+use Rattle.book.specs.Format.{leftPart, focusPart, rightPart, startFlag, acceptFlag}
 use Rattle.book.specs.Reading.{Book}
 use Rattle.book.specs.Language.{leads, stateOf, isOf, starts, ends, isStart, isAccept, accepts, someEnd, someFront, rules}
 use Rattle.book.specs.Outline.{ruleMask, allMask}
@@ -82,7 +83,7 @@ module _ (b : Book) (t : List ℕ) where
 pub record LeftState (b : Book) (t : List ℕ) (i s : ℕ) : Type 0 where
   pub left : stateOf b s .part ≡ 0
   pub start : ℕ
-  pub is-start : T (starts b 0 start)
+  pub is-start : T (starts b leftPart start)
   pub begun : ℕ
   pub up-to : begun ≤ i
   pub reached : T (leads (b .arcs) start (slice begun i t) s)
@@ -94,7 +95,7 @@ pub record RightState (b : Book) (t : List ℕ) (i s : ℕ) : Type 0 where
   pub from : i ≤ k
   pub inside : k ≤ length t
   pub accept : ℕ
-  pub is-accept : T (ends b 2 accept)
+  pub is-accept : T (ends b rightPart accept)
   pub reached : T (leads (b .arcs) s (slice i k t) accept)
 
 -- "the focus states from which a stretch i to k (k ≥ i) leads to acceptance with the right language of that rule holding at k"
@@ -104,7 +105,7 @@ pub record FocusState (b : Book) (t : List ℕ) (i s : ℕ) : Type 0 where
   pub from : i ≤ k
   pub inside : k ≤ length t
   pub accept : ℕ
-  pub is-accept : T (ends b 1 accept)
+  pub is-accept : T (ends b focusPart accept)
   pub reached : T (leads (b .arcs) s (slice i k t) accept)
   pub right : T (rules b .right (stateOf b s .rule) (drop k t))
 
@@ -138,7 +139,7 @@ module _ (b : Book) (h : Sound b) (t : List ℕ) where
         from = z .start;
         rule = stateOf b (z .start) .rule;
         cut = take-cut (z .begun) (take i t);
-        start = starts-out b 0 (z .start) (z .is-start);
+        start = starts-out b leftPart (z .start) (z .is-start);
         run = leads-out b (slice (z .begun) i t) (z .start) s (z .reached);
       }
 
@@ -192,7 +193,7 @@ module _ (b : Book) (h : Sound b) (t : List ℕ) where
         rule = stateOf b (z .accept) .rule;
         cut = slice-cut t i (z .k) (z .from);
         run = leads-out b (slice i (z .k) t) s (z .accept) (z .reached);
-        accept = ends-out b 2 (z .accept) (z .is-accept);
+        accept = ends-out b rightPart (z .accept) (z .is-accept);
       }
 
       from-focus : FocusState b t i s → FocusRun (machine b) (drop i t) s
@@ -203,30 +204,30 @@ module _ (b : Book) (h : Sound b) (t : List ℕ) where
         rule = stateOf b s .rule;
         cut = slice-cut t i (z .k) (z .from);
         run = run;
-        accept = subst (λ (r : ℕ). Accept (machine b) r 1 (z .accept)) (sym (run-rule (book-stays h) run)) (ends-out b 1 (z .accept) (z .is-accept));
+        accept = subst (λ (r : ℕ). Accept (machine b) r focusPart (z .accept)) (sym (run-rule (book-stays h) run)) (ends-out b focusPart (z .accept) (z .is-accept));
         right = right-iff b (stateOf b s .rule) (drop (z .k) t) .0 (z .right);
       }
 
   -- ---- the tests of the contexts
 
-  left-test : (r i : ℕ) → LeftHolds (machine b) r (take i t) ↔ ((s : ℕ) × Accept (machine b) r 0 s × T (member (leftAt b t i) s))
+  left-test : (r i : ℕ) → LeftHolds (machine b) r (take i t) ↔ ((s : ℕ) × Accept (machine b) r leftPart s × T (member (leftAt b t i) s))
   unfolding leftAt
   left-test r i = Runs.left-test (machine b) ℕ In (leftFirst b) (leftNext b) (first-law b) (next-law b h) (book-stays h) r (take i t)
 
-  right-test : (r i : ℕ) → RightHolds (machine b) r (drop i t) ↔ ((s : ℕ) × Start (machine b) r 2 s × T (member (rightAt b t i) s))
+  right-test : (r i : ℕ) → RightHolds (machine b) r (drop i t) ↔ ((s : ℕ) × Start (machine b) r rightPart s × T (member (rightAt b t i) s))
   unfolding rightAt
   right-test r i = Runs.right-test (machine b) ℕ In (book-stays h) (rightLast b) (rightPrev b) (last-law b) (prev-law b h) r (drop i t)
 
   -- the left language of r holds at i exactly if the left set at i meets r's left accept states
-  pub left-holds : (r i : ℕ) → rules b .left r (take i t) ≡ meetsAccept b r 0 (leftAt b t i)
-  left-holds r i = same-test (someEnd (accepts b r 0) (take i t)) (meetsAccept b r 0 (leftAt b t i)) (
+  pub left-holds : (r i : ℕ) → rules b .left r (take i t) ≡ meetsAccept b r leftPart (leftAt b t i)
+  left-holds r i = same-test (someEnd (accepts b r leftPart) (take i t)) (meetsAccept b r leftPart (leftAt b t i)) (
     λ x. meets-accept b r 0 (leftAt b t i) .1 (left-test r i .0 (left-iff b r (take i t) .0 x)),
     λ x. left-iff b r (take i t) .1 (left-test r i .1 (meets-accept b r 0 (leftAt b t i) .0 x)),
   )
 
   -- the right language of r holds at i exactly if the right set at i meets r's right start states
-  pub right-holds : (r i : ℕ) → rules b .right r (drop i t) ≡ meetsStart b r 2 (rightAt b t i)
-  right-holds r i = same-test (someFront (accepts b r 2) (drop i t)) (meetsStart b r 2 (rightAt b t i)) (
+  pub right-holds : (r i : ℕ) → rules b .right r (drop i t) ≡ meetsStart b r rightPart (rightAt b t i)
+  right-holds r i = same-test (someFront (accepts b r rightPart) (drop i t)) (meetsStart b r rightPart (rightAt b t i)) (
     λ x. meets-start b r 2 (rightAt b t i) .1 (right-test r i .0 (right-iff b r (drop i t) .0 x)),
     λ x. right-iff b r (drop i t) .1 (right-test r i .1 (meets-start b r 2 (rightAt b t i) .0 x)),
   )
@@ -234,10 +235,10 @@ module _ (b : Book) (h : Sound b) (t : List ℕ) where
   -- ---- the pruned walk from i
 
   module _ (i : ℕ) where
-    first-set : (s : ℕ) → T (member (focusFirst b (leftAt b t i) (rightAt b t i)) s) ↔ (((r : ℕ) × Start (machine b) r 1 s × LeftHolds (machine b) r (take i t)) × T (member (rightAt b t i) s))
+    first-set : (s : ℕ) → T (member (focusFirst b (leftAt b t i) (rightAt b t i)) s) ↔ (((r : ℕ) × Start (machine b) r focusPart s × LeftHolds (machine b) r (take i t)) × T (member (rightAt b t i) s))
     first-set = focus-first-law b (take i t) (leftAt b t i) (rightAt b t i) (λ r. left-test r i)
 
-    accepting : (r j : ℕ) → i ≤ j → Applies (machine b) (take i t) (slice i j t) (drop j t) r ↔ (((s : ℕ) × Accept (machine b) r 1 s × T (member (focusAt b t i j) s)) × RightHolds (machine b) r (drop j t))
+    accepting : (r j : ℕ) → i ≤ j → Applies (machine b) (take i t) (slice i j t) (drop j t) r ↔ (((s : ℕ) × Accept (machine b) r focusPart s × T (member (focusAt b t i j) s)) × RightHolds (machine b) r (drop j t))
     unfolding focusAt rightAt
     accepting r j k = Runs.accepting (machine b) ℕ In (book-stays h) (rightLast b) (rightPrev b) (last-law b) (prev-law b h) (focusNext b) (focus-next-law b h)
         (take i t) (focusFirst b (leftAt b t i) (rightAt b t i)) (drop i t) first-set r (slice-cut t i j k)
@@ -250,7 +251,7 @@ module _ (b : Book) (h : Sound b) (t : List ℕ) where
     -- the focus set from i at j holds the focus states that the stretch leads to from a start state of a rule whose left language holds at i,
     -- as far as they are in the right set at j
     pub focus-at : (j s : ℕ) → i ≤ j → T (member (focusAt b t i j) s) ↔
-        ((start : ℕ) × T (starts b 1 start) × T (rules b .left (stateOf b start .rule) (take i t)) × T (leads (b .arcs) start (slice i j t) s) × T (member (rightAt b t j) s))
+        ((start : ℕ) × T (starts b focusPart start) × T (rules b .left (stateOf b start .rule) (take i t)) × T (leads (b .arcs) start (slice i j t) s) × T (member (rightAt b t j) s))
     unfolding focusAt rightAt
     focus-at j s k = (
       λ x. let z = law .0 x in let y = first-set (z .0) .0 (z .1) .0 in (
@@ -264,7 +265,7 @@ module _ (b : Book) (h : Sound b) (t : List ℕ) where
           let here = Runs.back-run (machine b) ℕ In (book-stays h) (rightLast b) (rightPrev b) (last-law b) (prev-law b h) (slice-cut t i j k) run (z .4) in
           law .1 (
             z .0,
-            first-set (z .0) .1 ((stateOf b (z .0) .rule, starts-out b 1 (z .0) (z .1), left-iff b (stateOf b (z .0) .rule) (take i t) .0 (z .2)), here),
+            first-set (z .0) .1 ((stateOf b (z .0) .rule, starts-out b focusPart (z .0) (z .1), left-iff b (stateOf b (z .0) .rule) (take i t) .0 (z .2)), here),
             run,
             z .4,
           ),
@@ -277,7 +278,7 @@ module _ (b : Book) (h : Sound b) (t : List ℕ) where
             (λ p x. subst (λ (w : List ℕ). In p (before (rightLast b) (rightPrev b) w)) (cut-eq (slice-cut t i j k)) (first-set p .0 x .1))
 
     -- r applies to the stretch from i to j exactly if the focus set from i at j meets r's focus accept states and the right set at j its right start states
-    pub focus-test : (j r : ℕ) → i ≤ j → applies b t i j r ≡ (meetsAccept b r 1 (focusAt b t i j) && meetsStart b r 2 (rightAt b t j))
+    pub focus-test : (j r : ℕ) → i ≤ j → applies b t i j r ≡ (meetsAccept b r focusPart (focusAt b t i j) && meetsStart b r rightPart (rightAt b t j))
     focus-test j r k = same-test (applies b t i j r) (A && B) (
       λ x. let y = accepting r j k .0 (applies-iff b r (take i t) (slice i j t) (drop j t) .0 x) in
           and-both A B (meets-accept b r 1 (focusAt b t i j) .1 (y .0)) (meets-start b r 2 (rightAt b t j) .1 (right-test r j .0 (y .1))),
@@ -286,10 +287,10 @@ module _ (b : Book) (h : Sound b) (t : List ℕ) where
     )
       where
         A : Bool
-        A = meetsAccept b r 1 (focusAt b t i j)
+        A = meetsAccept b r focusPart (focusAt b t i j)
 
         B : Bool
-        B = meetsStart b r 2 (rightAt b t j)
+        B = meetsStart b r rightPart (rightAt b t j)
 
     -- where the focus set from i at j is empty, no rule applies to a stretch from i that ends at j or later
     pub focus-dead : (j k r : ℕ) → i ≤ j → j ≤ k → focusAt b t i j ≡ 0 → T (applies b t i k r) → ⊥
@@ -327,11 +328,11 @@ module _ (b : Book) (h : Sound b) (t : List ℕ) where
 
 module _ (b : Book) (o : Sound b) where
   -- a set meets a rule's accept or start states of a part exactly if it has something in common with their mask
-  pub accept-mask : (r part X : ℕ) → meetsAccept b r part X ≡ not (eqb (bitAnd X (ruleMask part 2 (b .states) r)) 0)
+  pub accept-mask : (r part X : ℕ) → meetsAccept b r part X ≡ not (eqb (bitAnd X (ruleMask part acceptFlag (b .states) r)) 0)
   unfolding isAccept ruleMask
   accept-mask r part X = sym (meets b o (λ s. eqb (stateOf b s .rule) r && isOf part 2 (stateOf b s)) (none-rule b part 2 r) X)
 
-  pub start-mask : (r part X : ℕ) → meetsStart b r part X ≡ not (eqb (bitAnd X (ruleMask part 1 (b .states) r)) 0)
+  pub start-mask : (r part X : ℕ) → meetsStart b r part X ≡ not (eqb (bitAnd X (ruleMask part startFlag (b .states) r)) 0)
   unfolding isStart ruleMask
   start-mask r part X = sym (meets b o (λ s. eqb (stateOf b s .rule) r && isOf part 1 (stateOf b s)) (none-rule b part 1 r) X)
 
@@ -350,31 +351,31 @@ module _ (b : Book) (o : Sound b) where
 
   module _ (L : ℕ) where
     no-start : (s : ℕ) → length (b .states) ≤ s → mayStart b L s ≡ false
-    no-start s h = ap (λ (c : Bool). c && meetsAccept b (stateOf b s .rule) 0 L) (none-of b 1 1 s h)
+    no-start s h = ap (λ (c : Bool). c && meetsAccept b (stateOf b s .rule) leftPart L) (none-of b focusPart startFlag s h)
 
     no-start-with : (c : Bool) (s : ℕ) → length (b .states) ≤ s → (c && mayStart b L s) ≡ false
     no-start-with c s h = ap (λ (d : Bool). c && d) (no-start s h) ∙ B.and-false c
 
     -- where the right set holds no focus start nothing starts
-    pub first-none : (R : ℕ) → bitAnd R (allMask 1 1 (b .states)) ≡ 0 → focusFirst b L R ≡ 0
+    pub first-none : (R : ℕ) → bitAnd R (allMask focusPart startFlag (b .states)) ≡ 0 → focusFirst b L R ≡ 0
     unfolding focusFirst allMask
     first-none R e = ext _ _ (λ s.
         member-of b o (λ k. mayStart b L k && member R k) (λ k h. ap (λ (c : Bool). c && member R k) (no-start k h)) s ∙ none s ∙ sym (member-none s))
       where
         none : (s : ℕ) → (mayStart b L s && member R s) ≡ false
         none s = is-false (mayStart b L s && member R s) (λ t.
-            let S = starts b 1 s in let K = meetsAccept b (stateOf b s .rule) 0 L in
-            subst T (none-both b o (λ k. isOf 1 1 (stateOf b k)) (none-of b 1 1) R e s)
+            let S = starts b focusPart s in let K = meetsAccept b (stateOf b s .rule) leftPart L in
+            subst T (none-both b o (λ k. isOf focusPart startFlag (stateOf b k)) (none-of b focusPart startFlag) R e s)
             (and-both S (member R s) (and-left S K (and-left (S && K) (member R s) t)) (and-right (S && K) (member R s) t)))
 
     -- what a rule gives: its focus starts, where the left set meets its left accepts
-    pub opened-mask : (r : ℕ) → openedBy b L r ≡ cond (eqb (bitAnd L (ruleMask 0 2 (b .states) r)) 0) 0 (ruleMask 1 1 (b .states) r)
+    pub opened-mask : (r : ℕ) → openedBy b L r ≡ cond (eqb (bitAnd L (ruleMask leftPart acceptFlag (b .states) r)) 0) 0 (ruleMask focusPart startFlag (b .states) r)
     unfolding openedBy
     opened-mask r = ext _ _ (λ s.
         member-of b o (λ k. eqb (stateOf b k .rule) r && mayStart b L k) (λ k h. no-start-with (eqb (stateOf b k .rule) r) k h) s
-        ∙ sym (member-joins (eqb (bitAnd L (ruleMask 0 2 (b .states) r)) 0) (ruleMask 1 1 (b .states) r) s
+        ∙ sym (member-joins (eqb (bitAnd L (ruleMask leftPart acceptFlag (b .states) r)) 0) (ruleMask focusPart startFlag (b .states) r) s
         ∙ ap₂ (λ (c d : Bool). c && d) (sym (accept-mask r 0 L)) (member-rule b o 1 1 r s)
-        ∙ at-rule (stateOf b s .rule) r (starts b 1 s) (λ k. meetsAccept b k 0 L)))
+        ∙ at-rule (stateOf b s .rule) r (starts b focusPart s) (λ k. meetsAccept b k leftPart L)))
 
     below : (n s : ℕ) → member (openedBelow b L n) s ≡ (ltb (stateOf b s .rule) n && mayStart b L s)
     unfolding openedBelow

@@ -13,7 +13,7 @@ use lib.Count.{trailingZeros}
 use lib.ListN.{length, getD, set, replicate, length-set}
 use lib.Seq.{getD-set-same, getD-set-other}
 use borrow.Author.Tests.{eq-eqb, le-leb, lt-leb}
-use Rattle.book.specs.Format.{symbolCount, mostRules, mostStates, byte, recordSize}
+use Rattle.book.specs.Format.{fromAt, toAt, symbolCount, mostRules, mostStates, byte, recordSize}
 use Rattle.book.specs.Reading.{Arc, Book, arcAt, bookOf, checkDef}
 use Rattle.book.specs.Language.{stateOf}
 use Rattle.book.specs.Sound.{Sound}
@@ -221,38 +221,38 @@ module _ (p q : ℕ) where
           }
 
 -- the row of either side
-pub row-right : (back : Bool) (arcs : List Arc) (x : ℕ) (row : List ℕ) → back ≡ true → Stepped (stepArcs 4 1 arcs x) row → Stepped (sideArcs back arcs x) row
+pub row-right : (back : Bool) (arcs : List Arc) (x : ℕ) (row : List ℕ) → back ≡ true → Stepped (stepArcs toAt fromAt arcs x) row → Stepped (sideArcs back arcs x) row
 unfolding sideArcs
 row-right back arcs x row e w = rw e (record { long = w .long; each = w .each })
 
-pub row-left : (back : Bool) (arcs : List Arc) (x : ℕ) (row : List ℕ) → back ≡ false → Stepped (stepArcs 1 4 arcs x) row → Stepped (sideArcs back arcs x) row
+pub row-left : (back : Bool) (arcs : List Arc) (x : ℕ) (row : List ℕ) → back ≡ false → Stepped (stepArcs fromAt toAt arcs x) row → Stepped (sideArcs back arcs x) row
 unfolding sideArcs
 row-left back arcs x row e w = rw e (record { long = w .long; each = w .each })
 
 -- what becomes of a step on either side
-module _ (lefts rights : ℕ) (starts ends : List ℕ) (back : Bool) (x : ℕ) where
-  pub close-right : (given : ℕ) → back ≡ true → given ≡ gather mostRules (bitOr rights x) starts ends → bitOr (bitOr rights x) given ≡ closeBy lefts rights starts ends back x
+module _ (leftStarts rightAccepts : ℕ) (rightStarts focusAccepts : List ℕ) (back : Bool) (x : ℕ) where
+  pub close-right : (given : ℕ) → back ≡ true → given ≡ gather mostRules (bitOr rightAccepts x) rightStarts focusAccepts → bitOr (bitOr rightAccepts x) given ≡ closeBy leftStarts rightAccepts rightStarts focusAccepts back x
   unfolding closeBy
-  close-right given e f = rw e (ap (bitOr (bitOr rights x)) f)
+  close-right given e f = rw e (ap (bitOr (bitOr rightAccepts x)) f)
 
-  pub close-left : back ≡ false → bitOr lefts x ≡ closeBy lefts rights starts ends back x
+  pub close-left : back ≡ false → bitOr leftStarts x ≡ closeBy leftStarts rightAccepts rightStarts focusAccepts back x
   unfolding closeBy
   close-left e = rw e
 
 -- it is the side's set: after no symbol, and after one more
-module _ (b : Book) (o : Sound b) (lefts rights : ℕ) (starts ends : List ℕ) (m : SideMasks b lefts rights starts ends) where
-  pub close-first : (back : Bool) → closeBy lefts rights starts ends back 0 ≡ sideFirst b back
+module _ (b : Book) (o : Sound b) (leftStarts rightAccepts : ℕ) (rightStarts focusAccepts : List ℕ) (m : SideMasks b leftStarts rightAccepts rightStarts focusAccepts) where
+  pub close-first : (back : Bool) → closeBy leftStarts rightAccepts rightStarts focusAccepts back 0 ≡ sideFirst b back
   unfolding closeBy sideFirst
   close-first true =
-      right-last b (bitOr rights 0) starts ends o (or-zero-r rights ∙ m .right-accepts) (m .right-starts) (m .focus-accepts)
-  close-first false = or-zero-r lefts ∙ m .left-starts ∙ left-first b o
+      right-last b (bitOr rightAccepts 0) rightStarts focusAccepts o (or-zero-r rightAccepts ∙ m .right-accepts) (m .right-starts) (m .focus-accepts)
+  close-first false = or-zero-r leftStarts ∙ m .left-starts ∙ left-first b o
 
-  pub close-step : (back : Bool) (x a : ℕ) → closeBy lefts rights starts ends back (sideArcs back (b .arcs) x a) ≡ sideStep b back x a
+  pub close-step : (back : Bool) (x a : ℕ) → closeBy leftStarts rightAccepts rightStarts focusAccepts back (sideArcs back (b .arcs) x a) ≡ sideStep b back x a
   unfolding closeBy sideArcs sideStep
   close-step true x a =
-      right-prev b x a (bitOr rights (stepArcs 4 1 (b .arcs) x a)) starts ends o (ap (λ (y : ℕ). bitOr y (stepArcs 4 1 (b .arcs) x a)) (m .right-accepts)) (m .right-starts) (m .focus-accepts)
-  close-step false x a = ap (λ (y : ℕ). bitOr y (stepArcs 1 4 (b .arcs) x a)) (m .left-starts) ∙ left-next b x a o
+      right-prev b x a (bitOr rightAccepts (stepArcs toAt fromAt (b .arcs) x a)) rightStarts focusAccepts o (ap (λ (y : ℕ). bitOr y (stepArcs toAt fromAt (b .arcs) x a)) (m .right-accepts)) (m .right-starts) (m .focus-accepts)
+  close-step false x a = ap (λ (y : ℕ). bitOr y (stepArcs fromAt toAt (b .arcs) x a)) (m .left-starts) ∙ left-next b x a o
 
   pub close-row : (back : Bool) (x : ℕ) (row : List ℕ) → Stepped (sideArcs back (b .arcs) x) row → (a : ℕ) → a < symbolCount
-      → closeBy lefts rights starts ends back (getD row a 0) ≡ sideStep b back x a
-  close-row back x row w a h = ap (closeBy lefts rights starts ends back) (w .each a h) ∙ close-step back x a
+      → closeBy leftStarts rightAccepts rightStarts focusAccepts back (getD row a 0) ≡ sideStep b back x a
+  close-row back x row w a h = ap (closeBy leftStarts rightAccepts rightStarts focusAccepts back) (w .each a h) ∙ close-step back x a

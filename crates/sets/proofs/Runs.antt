@@ -5,6 +5,7 @@ use mathlib.Core.List.{List, [], _∷_, _++_}
 use mathlib.Core.Path.{_≡_, refl, sym, _∙_, subst}
 use mathlib.Core.Logic.{_↔_, _⊎_, inl, inr, ⊎-elim}
 use native.Mathlib.Omega.{arith}
+use Rattle.book.specs.Format.{leftPart, focusPart, rightPart}
 use Rattle.book.proofs.Tests.{Cut, nil, cons, cut-of, cut-eq}
 use Rattle.sets.specs.Sets.{after, before}
 use Rattle.sets.specs.Focus.{pruned}
@@ -64,19 +65,19 @@ pub record LeftHolds (M : Machine) (r : ℕ) (w : List ℕ) : Type 0 where
   pub front : List ℕ
   pub word : List ℕ
   pub cut : Cut front word w
-  pub accepts : Accepts M r 0 word
+  pub accepts : Accepts M r leftPart word
 
 -- some word at the front of w is in the right language
 pub record RightHolds (M : Machine) (r : ℕ) (w : List ℕ) : Type 0 where
   pub word : List ℕ
   pub rest : List ℕ
   pub cut : Cut word rest w
-  pub accepts : Accepts M r 2 word
+  pub accepts : Accepts M r rightPart word
 
 -- the rule r applies between l and w: its left language holds after l, f is in its focus language, its right language holds before w
 pub record Applies (M : Machine) (l f w : List ℕ) (r : ℕ) : Type 0 where
   pub left : LeftHolds M r l
-  pub focus : Accepts M r 1 f
+  pub focus : Accepts M r focusPart f
   pub right : RightHolds M r w
 
 -- some rule applies to a word that begins with u and goes on into v, perhaps by nothing
@@ -96,7 +97,7 @@ pub record LeftRun (M : Machine) (w : List ℕ) (s : ℕ) : Type 0 where
   pub from : ℕ
   pub rule : ℕ
   pub cut : Cut front word w
-  pub start : Start M rule 0 from
+  pub start : Start M rule leftPart from
   pub run : Run M from word s
 
 -- from s some word at the front of w leads to acceptance in a right part
@@ -107,7 +108,7 @@ pub record RightRun (M : Machine) (w : List ℕ) (s : ℕ) : Type 0 where
   pub rule : ℕ
   pub cut : Cut word rest w
   pub run : Run M s word to
-  pub accept : Accept M rule 2 to
+  pub accept : Accept M rule rightPart to
 
 -- from s some word at the front of w leads to acceptance in a focus, and that rule's right language holds after it
 pub record FocusRun (M : Machine) (w : List ℕ) (s : ℕ) : Type 0 where
@@ -117,16 +118,16 @@ pub record FocusRun (M : Machine) (w : List ℕ) (s : ℕ) : Type 0 where
   pub rule : ℕ
   pub cut : Cut word rest w
   pub run : Run M s word to
-  pub accept : Accept M rule 1 to
+  pub accept : Accept M rule focusPart to
   pub right : RightHolds M rule rest
 
 -- s passes, or accepts in a right part
 abbrev pub Near : Machine → (ℕ → Type 0) → ℕ → Type 0
-Near M B s = B s ⊎ ((r : ℕ) × Accept M r 2 s)
+Near M B s = B s ⊎ ((r : ℕ) × Accept M r rightPart s)
 
 -- and the focus accept states of the rules whose right start states are near
 abbrev pub Close : Machine → (ℕ → Type 0) → ℕ → Type 0
-Close M B s = Near M B s ⊎ ((r p : ℕ) × Accept M r 1 s × Start M r 2 p × Near M B p)
+Close M B s = Near M B s ⊎ ((r p : ℕ) × Accept M r focusPart s × Start M r rightPart p × Near M B p)
 
 module _ {M : Machine} (stays : Stays M) where
   pub run-rule : {p q : ℕ} {w : List ℕ} → Run M p w q → M .rule p ≡ M .rule q
@@ -151,8 +152,8 @@ module _ {M : Machine} (stays : Stays M) where
 module _ (M : Machine) (S : Type 0) (In : ℕ → S → Type 0) where
   -- ---- left sets
   module _ (first : S) (next : S → ℕ → S)
-      (first-law : (s : ℕ) → In s first ↔ ((r : ℕ) × Start M r 0 s))
-      (next-law : (X : S) (a s : ℕ) → In s (next X a) ↔ (((r : ℕ) × Start M r 0 s) ⊎ ((p : ℕ) × In p X × M .Step p a s))) where
+      (first-law : (s : ℕ) → In s first ↔ ((r : ℕ) × Start M r leftPart s))
+      (next-law : (X : S) (a s : ℕ) → In s (next X a) ↔ (((r : ℕ) × Start M r leftPart s) ⊎ ((p : ℕ) × In p X × M .Step p a s))) where
     abbrev pub walk : S → List ℕ → S
     walk = after next
 
@@ -160,7 +161,7 @@ module _ (M : Machine) (S : Type 0) (In : ℕ → S → Type 0) where
     walk-run X h stop = h
     walk-run {p = p} X h (step {a = a} {m = m} t l) = walk-run (next X a) (next-law X a m .1 (inr (p, h, t))) l
 
-    walk-late : {u v w : List ℕ} {r p s : ℕ} (X : S) → ((r s : ℕ) → Start M r 0 s → In s X) → Cut u v w → Start M r 0 p → Run M p v s → In s (walk X w)
+    walk-late : {u v w : List ℕ} {r p s : ℕ} (X : S) → ((r s : ℕ) → Start M r leftPart s → In s X) → Cut u v w → Start M r leftPart p → Run M p v s → In s (walk X w)
     walk-late {r = r} {p = p} X all nil b l = walk-run X (all r p b) l
     walk-late X all (cons {a = a} c) b l = walk-late (next X a) (λ r s b. next-law X a s .1 (inl (r, b))) c b l
 
@@ -188,17 +189,17 @@ module _ (M : Machine) (S : Type 0) (In : ℕ → S → Type 0) where
         whole z = let b = first-law (z .0) .0 (z .1) in record { front = []; word = w; from = z .0; rule = b .0; cut = nil; start = b .1; run = z .2 }
 
     -- the test of a left context: the left set meets the left accept states of r
-    pub left-test : Stays M → (r : ℕ) (w : List ℕ) → LeftHolds M r w ↔ ((s : ℕ) × Accept M r 0 s × In s (walk first w))
+    pub left-test : Stays M → (r : ℕ) (w : List ℕ) → LeftHolds M r w ↔ ((s : ℕ) × Accept M r leftPart s × In s (walk first w))
     left-test stays r w = (to, from)
       where
-        to : LeftHolds M r w → (s : ℕ) × Accept M r 0 s × In s (walk first w)
+        to : LeftHolds M r w → (s : ℕ) × Accept M r leftPart s × In s (walk first w)
         to h = let x = h .accepts in (
           x .to,
           x .accept,
           left-set w (x .to) .1 (record { front = h .front; word = h .word; from = x .from; rule = r; cut = h .cut; start = x .start; run = x .run }),
         )
 
-        from : ((s : ℕ) × Accept M r 0 s × In s (walk first w)) → LeftHolds M r w
+        from : ((s : ℕ) × Accept M r leftPart s × In s (walk first w)) → LeftHolds M r w
         from z =
             let y = left-set w (z .0) .0 (z .2) in
             let e = one-rule stays (y .start) (y .run) (z .1) in
@@ -206,7 +207,7 @@ module _ (M : Machine) (S : Type 0) (In : ℕ → S → Type 0) where
               front = y .front;
               word = y .word;
               cut = y .cut;
-              accepts = record { from = y .from; to = z .0; start = subst (λ (x : ℕ). Start M x 0 (y .from)) e (y .start); accept = z .1; run = y .run };
+              accepts = record { from = y .from; to = z .0; start = subst (λ (x : ℕ). Start M x leftPart (y .from)) e (y .start); accept = z .1; run = y .run };
             }
 
   -- ---- right sets
@@ -242,7 +243,7 @@ module _ (M : Machine) (S : Type 0) (In : ℕ → S → Type 0) where
     unfolding Behind
     right-near {w} {s} z = go (z .cut) (z .run) (z .accept)
       where
-        go : {u v w : List ℕ} {s q r : ℕ} → Cut u v w → Run M s u q → Accept M r 2 q → Near M (Behind w) s
+        go : {u v w : List ℕ} {s q r : ℕ} → Cut u v w → Run M s u q → Accept M r rightPart q → Near M (Behind w) s
         go {r = r} nil stop b = inr (r, b)
         go {v = v} {q = q} {r = r} (cons {u = u} c) (step {m = m} t l) b = inl (m, t, right-in (record { word = u; rest = v; to = q; rule = r; cut = c; run = l; accept = b }))
 
@@ -264,7 +265,7 @@ module _ (M : Machine) (S : Type 0) (In : ℕ → S → Type 0) where
         near : (s : ℕ) → Near M (Behind w) s → RightRun M w s ⊎ FocusRun M w s
         near s = ⊎-elim (behind s) (λ b. inl (record { word = []; rest = w; to = s; rule = b .0; cut = nil; run = stop; accept = b .1 }))
 
-        far : ((r p : ℕ) × Accept M r 1 s × Start M r 2 p × Near M (Behind w) p) → RightRun M w s ⊎ FocusRun M w s
+        far : ((r p : ℕ) × Accept M r focusPart s × Start M r rightPart p × Near M (Behind w) p) → RightRun M w s ⊎ FocusRun M w s
         far z = ⊎-elim
             (λ y. inr (record {
               word = [];
@@ -299,17 +300,17 @@ module _ (M : Machine) (S : Type 0) (In : ℕ → S → Type 0) where
     right-set w s = (set-run w s, ⊎-elim right-in focus-in)
 
     -- the test of a right context: the right set meets the right start states of r
-    pub right-test : (r : ℕ) (w : List ℕ) → RightHolds M r w ↔ ((p : ℕ) × Start M r 2 p × In p (walkBack w))
+    pub right-test : (r : ℕ) (w : List ℕ) → RightHolds M r w ↔ ((p : ℕ) × Start M r rightPart p × In p (walkBack w))
     right-test r w = (to, from)
       where
-        to : RightHolds M r w → (p : ℕ) × Start M r 2 p × In p (walkBack w)
+        to : RightHolds M r w → (p : ℕ) × Start M r rightPart p × In p (walkBack w)
         to h = let x = h .accepts in (
           x .from,
           x .start,
           right-in (record { word = h .word; rest = h .rest; to = x .to; rule = r; cut = h .cut; run = x .run; accept = x .accept }),
         )
 
-        from : ((p : ℕ) × Start M r 2 p × In p (walkBack w)) → RightHolds M r w
+        from : ((p : ℕ) × Start M r rightPart p × In p (walkBack w)) → RightHolds M r w
         from z = ⊎-elim
             (λ y. record {
               word = y .word;
@@ -346,34 +347,34 @@ module _ (M : Machine) (S : Type 0) (In : ℕ → S → Type 0) where
 
       -- F₀: the focus start states of the rules whose left context holds, and in the right set
       module _ (l : List ℕ) (F : S) (w : List ℕ)
-          (F-law : (s : ℕ) → In s F ↔ (((r : ℕ) × Start M r 1 s × LeftHolds M r l) × In s (walkBack w))) where
+          (F-law : (s : ℕ) → In s F ↔ (((r : ℕ) × Start M r focusPart s × LeftHolds M r l) × In s (walkBack w))) where
         F-in : {u v : List ℕ} → Cut u v w → (p : ℕ) → In p F → In p (walkBack (u ++ v))
         F-in c p h = subst (λ (x : List ℕ). In p (walkBack x)) (cut-eq c) (F-law p .0 h .1)
 
         -- a state of the pruned set: where its run began, and its own rule's left context held there
-        pub held : {u v : List ℕ} {s : ℕ} → Cut u v w → In s (prune F u v) → (p : ℕ) × Start M (M .rule s) 1 p × LeftHolds M (M .rule s) l × Run M p u s × In s (walkBack v)
+        pub held : {u v : List ℕ} {s : ℕ} → Cut u v w → In s (prune F u v) → (p : ℕ) × Start M (M .rule s) focusPart p × LeftHolds M (M .rule s) l × Run M p u s × In s (walkBack v)
         held {u} {v} {s} c h =
             let z = prune-from u F v s (F-in c) h in
             let y = F-law (z .0) .0 (z .1) .0 in
             let e : y .0 ≡ M .rule s = sym (y .1 .of) ∙ run-rule stays (z .2) in
-            (z .0, subst (λ (r : ℕ). Start M r 1 (z .0)) e (y .1), subst (λ (r : ℕ). LeftHolds M r l) e (y .2), z .2, z .3)
+            (z .0, subst (λ (r : ℕ). Start M r focusPart (z .0)) e (y .1), subst (λ (r : ℕ). LeftHolds M r l) e (y .2), z .2, z .3)
 
         -- r applies to a word exactly if a state of the pruned set accepts for r and r's right language holds after it
-        pub accepting : {u v : List ℕ} (r : ℕ) → Cut u v w → Applies M l u v r ↔ (((s : ℕ) × Accept M r 1 s × In s (prune F u v)) × RightHolds M r v)
+        pub accepting : {u v : List ℕ} (r : ℕ) → Cut u v w → Applies M l u v r ↔ (((s : ℕ) × Accept M r focusPart s × In s (prune F u v)) × RightHolds M r v)
         accepting {u} {v} r c = (to, λ z. from (z .0) (z .1))
           where
-            to : Applies M l u v r → ((s : ℕ) × Accept M r 1 s × In s (prune F u v)) × RightHolds M r v
+            to : Applies M l u v r → ((s : ℕ) × Accept M r focusPart s × In s (prune F u v)) × RightHolds M r v
             to h =
                 let x = h .focus in
                 let k = focus-in (record { word = []; rest = v; to = x .to; rule = r; cut = nil; run = stop; accept = x .accept; right = h .right }) in
                 ((x .to, x .accept, prune-to F v (F-law (x .from) .1 ((r, x .start, h .left), back-run c (x .run) k)) (x .run) k), h .right)
 
-            from : ((s : ℕ) × Accept M r 1 s × In s (prune F u v)) → RightHolds M r v → Applies M l u v r
+            from : ((s : ℕ) × Accept M r focusPart s × In s (prune F u v)) → RightHolds M r v → Applies M l u v r
             from z h =
                 let y = held c (z .2) in
                 record {
                   left = subst (λ (x : ℕ). LeftHolds M x l) (z .1 .of) (y .2);
-                  focus = record { from = y .0; to = z .0; start = subst (λ (x : ℕ). Start M x 1 (y .0)) (z .1 .of) (y .1); accept = z .1; run = y .3 };
+                  focus = record { from = y .0; to = z .0; start = subst (λ (x : ℕ). Start M x focusPart (y .0)) (z .1 .of) (y .1); accept = z .1; run = y .3 };
                   right = h;
                 }
 
@@ -398,7 +399,7 @@ module _ (M : Machine) (S : Type 0) (In : ℕ → S → Type 0) where
                   whole = cut-of u (z .word);
                   applies = record {
                     left = subst (λ (x : ℕ). LeftHolds M x l) e (y .2);
-                    focus = record { from = y .0; to = z .to; start = subst (λ (x : ℕ). Start M x 1 (y .0)) e (y .1); accept = z .accept; run = k };
+                    focus = record { from = y .0; to = z .to; start = subst (λ (x : ℕ). Start M x focusPart (y .0)) e (y .1); accept = z .accept; run = k };
                     right = z .right;
                   };
                 })

@@ -8,6 +8,7 @@ use native.Mathlib.Omega.{arith}
 use native.Mathlib.Decide.{decLt}
 use lib.Dec.{T, eqb, eqb→eq}
 use lib.ListN.{length}
+use Rattle.book.specs.Format.{leftPart, focusPart, rightPart}
 use Rattle.book.specs.Reading.{Book}
 use Rattle.book.specs.Language.{opens, stateOf, starts, ends, isStart, isAccept, someState}
 use Rattle.book.specs.StateSets.{member, encode}
@@ -93,16 +94,16 @@ module _ (b : Book) where
   )
 
   -- the left set of the empty tape
-  pub first-law : (s : ℕ) → T (member (leftFirst b) s) ↔ ((r : ℕ) × Start (machine b) r 0 s)
+  pub first-law : (s : ℕ) → T (member (leftFirst b) s) ↔ ((r : ℕ) × Start (machine b) r leftPart s)
   unfolding leftFirst
-  first-law s = (λ t. starts-law 0 s .0 (set-law _ s .0 t .1), λ z. set-law _ s .1 (start-known b (z .1), starts-law 0 s .1 z))
+  first-law s = (λ t. starts-law leftPart s .0 (set-law _ s .0 t .1), λ z. set-law _ s .1 (start-known b (z .1), starts-law leftPart s .1 z))
 
   -- the closing of a right set, whose states before it are those of B
   module _ (f : ℕ → Bool) (B : ℕ → Type 0) (e : (s : ℕ) → T (f s) ↔ B s) (g : (s : ℕ) → B s → s < length (b .states)) where
     near-law : (s : ℕ) → T (near b f s) ↔ Near (machine b) B s
     near-law s = (
-      λ t. ⊎-elim (λ k. inl (e s .0 k)) (λ k. inr (ends-law 2 s .0 k)) (or-cases (f s) (ends b 2 s) t),
-      ⊎-elim (λ k. or-left (f s) (ends b 2 s) (e s .1 k)) (λ k. or-right (f s) (ends b 2 s) (ends-law 2 s .1 k)),
+      λ t. ⊎-elim (λ k. inl (e s .0 k)) (λ k. inr (ends-law rightPart s .0 k)) (or-cases (f s) (ends b rightPart s) t),
+      ⊎-elim (λ k. or-left (f s) (ends b rightPart s) (e s .1 k)) (λ k. or-right (f s) (ends b rightPart s) (ends-law rightPart s .1 k)),
     )
 
     near-known : (s : ℕ) → Near (machine b) B s → s < length (b .states)
@@ -116,27 +117,27 @@ module _ (b : Book) where
         r = stateOf b s .rule
 
         m : Bool
-        m = someState b (λ (p : ℕ). isStart b (stateOf b s .rule) 2 p && near b f p)
+        m = someState b (λ (p : ℕ). isStart b (stateOf b s .rule) rightPart p && near b f p)
 
-        far : T (ends b 1 s && m) → Close (machine b) B s
+        far : T (ends b focusPart s && m) → Close (machine b) B s
         far t =
-            let z = some-out b (isStart b r 2) (near b f) (and-right (ends b 1 s) m t) in
-            inr (r, z .0, ends-out b 1 s (and-left (ends b 1 s) m t), start-out b r 2 (z .0) (z .1), near-law (z .0) .0 (z .2))
+            let z = some-out b (isStart b r rightPart) (near b f) (and-right (ends b focusPart s) m t) in
+            inr (r, z .0, ends-out b focusPart s (and-left (ends b focusPart s) m t), start-out b r rightPart (z .0) (z .1), near-law (z .0) .0 (z .2))
 
         to : T (member (closed b f) s) → Close (machine b) B s
-        to t = ⊎-elim (λ k. inl (near-law s .0 k)) far (or-cases (near b f s) (ends b 1 s && m) (set-law _ s .0 t .1))
+        to t = ⊎-elim (λ k. inl (near-law s .0 k)) far (or-cases (near b f s) (ends b focusPart s && m) (set-law _ s .0 t .1))
 
-        back : ((r p : ℕ) × Accept (machine b) r 1 s × Start (machine b) r 2 p × Near (machine b) B p) → T (member (closed b f) s)
+        back : ((r p : ℕ) × Accept (machine b) r focusPart s × Start (machine b) r rightPart p × Near (machine b) B p) → T (member (closed b f) s)
         back z =
-            let w = subst (λ (x : ℕ). Start (machine b) x 2 (z .1)) (sym (z .2 .of)) (z .3) in
+            let w = subst (λ (x : ℕ). Start (machine b) x rightPart (z .1)) (sym (z .2 .of)) (z .3) in
             set-law _ s .1 (
               accept-known b (z .2),
-              or-right (near b f s) (ends b 1 s && m) (and-both (ends b 1 s) m (ends-in b (z .2))
-                  (some-in b (isStart b r 2) (near b f) (z .1) (start-known b w) (start-in b w) (near-law (z .1) .1 (z .4)))),
+              or-right (near b f s) (ends b focusPart s && m) (and-both (ends b focusPart s) m (ends-in b (z .2))
+                  (some-in b (isStart b r rightPart) (near b f) (z .1) (start-known b w) (start-in b w) (near-law (z .1) .1 (z .4)))),
             )
 
         from : Close (machine b) B s → T (member (closed b f) s)
-        from = ⊎-elim (λ k. set-law _ s .1 (near-known s k, or-left (near b f s) (ends b 1 s && m) (near-law s .1 k))) back
+        from = ⊎-elim (λ k. set-law _ s .1 (near-known s k, or-left (near b f s) (ends b focusPart s && m) (near-law s .1 k))) back
 
   -- the right set of the empty tape
   pub last-law : (s : ℕ) → T (member (rightLast b) s) ↔ Close (machine b) (λ q. ⊥) s
@@ -144,8 +145,8 @@ module _ (b : Book) where
   last-law = closed-law (λ (s : ℕ). false) (λ q. ⊥) (λ s. (λ t. t, λ t. t)) (λ s t. absurd t)
 
   -- the first set of the pruned walk, where L is the left set after l
-  pub focus-first-law : (l : List ℕ) (L R : ℕ) → ((r : ℕ) → LeftHolds (machine b) r l ↔ ((s : ℕ) × Accept (machine b) r 0 s × T (member L s))) → (s : ℕ)
-      → T (member (focusFirst b L R) s) ↔ (((r : ℕ) × Start (machine b) r 1 s × LeftHolds (machine b) r l) × T (member R s))
+  pub focus-first-law : (l : List ℕ) (L R : ℕ) → ((r : ℕ) → LeftHolds (machine b) r l ↔ ((s : ℕ) × Accept (machine b) r leftPart s × T (member L s))) → (s : ℕ)
+      → T (member (focusFirst b L R) s) ↔ (((r : ℕ) × Start (machine b) r focusPart s × LeftHolds (machine b) r l) × T (member R s))
   unfolding focusFirst
   focus-first-law l L R e s = (to, from)
     where
@@ -153,21 +154,21 @@ module _ (b : Book) where
       r = stateOf b s .rule
 
       m : Bool
-      m = meetsAccept b r 0 L
+      m = meetsAccept b r leftPart L
 
-      to : T (member (focusFirst b L R) s) → ((r : ℕ) × Start (machine b) r 1 s × LeftHolds (machine b) r l) × T (member R s)
+      to : T (member (focusFirst b L R) s) → ((r : ℕ) × Start (machine b) r focusPart s × LeftHolds (machine b) r l) × T (member R s)
       to t =
           let u = set-law _ s .0 t .1 in
-          let v = and-left (starts b 1 s && m) (member R s) u in
-          ((r, starts-out b 1 s (and-left (starts b 1 s) m v), e r .1 (meets-accept r 0 L .0 (and-right (starts b 1 s) m v))), and-right (starts b 1 s && m) (member R s) u)
+          let v = and-left (starts b focusPart s && m) (member R s) u in
+          ((r, starts-out b focusPart s (and-left (starts b focusPart s) m v), e r .1 (meets-accept r leftPart L .0 (and-right (starts b focusPart s) m v))), and-right (starts b focusPart s && m) (member R s) u)
 
-      from : ((r : ℕ) × Start (machine b) r 1 s × LeftHolds (machine b) r l) × T (member R s) → T (member (focusFirst b L R) s)
+      from : ((r : ℕ) × Start (machine b) r focusPart s × LeftHolds (machine b) r l) × T (member R s) → T (member (focusFirst b L R) s)
       from z =
           let y = z .0 in
           let k = subst (λ (x : ℕ). LeftHolds (machine b) x l) (sym (y .1 .of)) (y .2) in
           set-law _ s .1 (
             start-known b (y .1),
-            and-both (starts b 1 s && m) (member R s) (and-both (starts b 1 s) m (starts-in b (y .1)) (meets-accept r 0 L .1 (e r .0 k))) (z .1),
+            and-both (starts b focusPart s && m) (member R s) (and-both (starts b focusPart s) m (starts-in b (y .1)) (meets-accept r leftPart L .1 (e r .0 k))) (z .1),
           )
 
   -- the steps: the states of an arc are the book's
@@ -178,16 +179,16 @@ module _ (b : Book) where
     step-from : {p a s : ℕ} → ArcStep b p a s → p < length (b .states)
     step-from {p} {a} z = subst (λ (x : ℕ). x < length (b .states)) (opens-from (z .arc) p a (z .open-to)) (arc-fits h (z .listed) .from)
 
-    pub next-law : (X a s : ℕ) → T (member (leftNext b X a) s) ↔ (((r : ℕ) × Start (machine b) r 0 s) ⊎ ((p : ℕ) × T (member X p) × ArcStep b p a s))
+    pub next-law : (X a s : ℕ) → T (member (leftNext b X a) s) ↔ (((r : ℕ) × Start (machine b) r leftPart s) ⊎ ((p : ℕ) × T (member X p) × ArcStep b p a s))
     unfolding leftNext
     next-law X a s = (to, from)
       where
-        to : T (member (leftNext b X a) s) → ((r : ℕ) × Start (machine b) r 0 s) ⊎ ((p : ℕ) × T (member X p) × ArcStep b p a s)
-        to t = ⊎-elim (λ k. inl (starts-law 0 s .0 k)) (λ k. inr (into-law X a s .0 k)) (or-cases (starts b 0 s) (intoBy b X a s) (set-law _ s .0 t .1))
+        to : T (member (leftNext b X a) s) → ((r : ℕ) × Start (machine b) r leftPart s) ⊎ ((p : ℕ) × T (member X p) × ArcStep b p a s)
+        to t = ⊎-elim (λ k. inl (starts-law leftPart s .0 k)) (λ k. inr (into-law X a s .0 k)) (or-cases (starts b leftPart s) (intoBy b X a s) (set-law _ s .0 t .1))
 
-        from : ((r : ℕ) × Start (machine b) r 0 s) ⊎ ((p : ℕ) × T (member X p) × ArcStep b p a s) → T (member (leftNext b X a) s)
-        from = ⊎-elim (λ z. set-law _ s .1 (start-known b (z .1), or-left (starts b 0 s) (intoBy b X a s) (starts-law 0 s .1 z)))
-            (λ z. set-law _ s .1 (step-to (z .2), or-right (starts b 0 s) (intoBy b X a s) (into-law X a s .1 z)))
+        from : ((r : ℕ) × Start (machine b) r leftPart s) ⊎ ((p : ℕ) × T (member X p) × ArcStep b p a s) → T (member (leftNext b X a) s)
+        from = ⊎-elim (λ z. set-law _ s .1 (start-known b (z .1), or-left (starts b leftPart s) (intoBy b X a s) (starts-law leftPart s .1 z)))
+            (λ z. set-law _ s .1 (step-to (z .2), or-right (starts b leftPart s) (intoBy b X a s) (into-law X a s .1 z)))
 
     pub prev-law : (X a s : ℕ) → T (member (rightPrev b X a) s) ↔ Close (machine b) (Back (machine b) ℕ In X a) s
     unfolding rightPrev

@@ -1,10 +1,10 @@
 -- The house book, built by the definition: two left sets and fourteen right sets, its first rows, and what stands before and past the
 -- parts of a workspace that held 255 everywhere; and a set workspace that is too short by one.
-use Prim.Native.Nat.{ℕ, _+_, _-_}
+use Prim.Native.Nat.{ℕ, _+_, _-_, _*_}
 use mathlib.Core.List.{List, [], _∷_}
 use mathlib.Core.Path.{_≡_, refl}
 use lib.ListN.{take, drop, replicate}
-use Rattle.book.specs.Format.{recordSize, symbolFits, symbolsFit, ruleReply, stateReply, given, arcReply, endReply, kindReply, recordReply}
+use Rattle.book.specs.Format.{symbolCount, recordSize, symbolFits, symbolsFit, ruleReply, stateReply, given, arcReply, endReply, kindReply, recordReply}
 use Rattle.book.specs.Reading.{withRecord, readFrom, readBook, checkDef, bookOf}
 use Rattle.book.specs.Language.{flagged, isStart}
 use Rattle.book.specs.StateSets.{member, encode}
@@ -17,8 +17,8 @@ use Rattle.sets.specs.Workspace.{rowBytes, setWords, leftTable, rightTab
 abbrev shown : AfterBuild → List (List ℕ)
 shown x =
     (x .answer .reply ∷ x .answer .place ∷ x .answer .left ∷ x .answer .right ∷ []) ∷
-    take 48 (x .rows) ∷
-    take 32 (drop pairs (x .rows)) ∷
+    take (3 * symbolCount) (x .rows) ∷
+    take (2 * symbolCount) (drop pairs (x .rows)) ∷
     take 3 (x .sets) ∷
     take 15 (drop mostSets (x .sets)) ∷
     drop rowBytes (x .rows) ∷

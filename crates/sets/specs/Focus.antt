@@ -6,6 +6,7 @@ use mathlib.Core.Bool.{Bool, _&&_}
 use lib.Dec.{eqb, ltb}
 use lib.ListN.{drop}
 use lib.Seq.{slice}
+use Rattle.book.specs.Format.{leftPart, focusPart}
 use Rattle.book.specs.Reading.{Book}
 use Rattle.book.specs.Language.{stateOf, starts, isStart, isAccept, someState}
 use Rattle.book.specs.StateSets.{member}
@@ -20,7 +21,7 @@ meetsStart b r part X = someState b (λ (s : ℕ). isStart b r part s && member 
 
 -- the first set of the walk: the focus starts of the rules whose left context holds (L), those in the right set R
 abbrev pub mayStart : Book → ℕ → ℕ → Bool
-mayStart b L s = starts b 1 s && meetsAccept b (stateOf b s .rule) 0 L
+mayStart b L s = starts b focusPart s && meetsAccept b (stateOf b s .rule) leftPart L
 
 unfoldable pub focusFirst : Book → ℕ → ℕ → ℕ
 focusFirst b L R = setOf b (λ (s : ℕ). mayStart b L s && member R s)

@@ -4,6 +4,7 @@ use mathlib.Core.List.{List, [], _∷_}
 use mathlib.Core.Bool.{Bool, true, false, _&&_, _||_}
 use lib.Dec.{eqb}
 use lib.ListN.{length, take, drop}
+use Rattle.book.specs.Format.{leftPart, focusPart, rightPart}
 use Rattle.book.specs.Reading.{Arc, Book}
 use Rattle.book.specs.Language.{any, opens, stateOf, starts, ends, isStart, someState}
 use Rattle.book.specs.StateSets.{member, encode}
@@ -21,19 +22,19 @@ backBy b X a s = any (λ (x : Arc). opens x s a && member X (x .to)) (b .arcs)
 
 -- "The left set at i holds the left-part states reached at i by runs from a start state begun at any position up to i"
 unfoldable pub leftFirst : Book → ℕ
-leftFirst b = setOf b (starts b 0)
+leftFirst b = setOf b (starts b leftPart)
 
 unfoldable pub leftNext : Book → ℕ → ℕ → ℕ
-leftNext b X a = setOf b (λ (s : ℕ). starts b 0 s || intoBy b X a s)
+leftNext b X a = setOf b (λ (s : ℕ). starts b leftPart s || intoBy b X a s)
 
 -- "The right set at i holds the right-part states from which some word beginning at i leads to acceptance, and the focus states from which
 -- a stretch i to k (k ≥ i) leads to acceptance with the right language of that rule holding at k": those that pass f, the right accepts,
 -- and the focus accepts of the rules whose right starts are among these
 abbrev pub near : Book → (ℕ → Bool) → ℕ → Bool
-near b f s = f s || ends b 2 s
+near b f s = f s || ends b rightPart s
 
 unfoldable pub closed : Book → (ℕ → Bool) → ℕ
-closed b f = setOf b (λ (s : ℕ). near b f s || (ends b 1 s && someState b (λ (p : ℕ). isStart b (stateOf b s .rule) 2 p && near b f p)))
+closed b f = setOf b (λ (s : ℕ). near b f s || (ends b focusPart s && someState b (λ (p : ℕ). isStart b (stateOf b s .rule) rightPart p && near b f p)))
 
 unfoldable pub rightLast : Book → ℕ
 rightLast b = closed b (λ (s : ℕ). false)

@@ -7,7 +7,7 @@ use mathlib.Core.Bool.{Bool, true, cond, _&&_, _||_}
 use lib.Dec.{leb, eqb}
 use lib.Bits.{bitOr, bitAnd}
 use lib.ListN.{length, getD}
-use Rattle.book.specs.Format.{byte, symbolCount, mostRules, mostStates}
+use Rattle.book.specs.Format.{symbolCount, mostRules, mostStates, arcSize, fromAt, lowAt, highAt, toAt, byte}
 use Rattle.book.specs.Reading.{Arc}
 use Rattle.book.specs.StateSets.{member}
 
@@ -23,14 +23,14 @@ unfoldable pub stepFold : List Arc → ℕ → ℕ → ℕ
 stepFold [] set a = 0
 stepFold (x ∷ rest) set a = bitOr (hopFold x set a) (stepFold rest set a)
 
--- the bytes of an arc's record that name a state: 1 the state it comes from, 4 the state it goes to
+-- the bytes of an arc's record that name a state: the state it comes from, the state it goes to
 unfoldable pub isEnd : ℕ → Bool
-isEnd p = eqb p 1 || eqb p 4
+isEnd p = eqb p fromAt || eqb p toAt
 
 abbrev pub endOf : ℕ → Arc → ℕ
-endOf p x = cond (eqb p 1) (x .from) (x .to)
+endOf p x = cond (eqb p fromAt) (x .from) (x .to)
 
--- an arc read from its byte p to its byte q: 1 and 4 forwards, 4 and 1 backwards
+-- an arc read from its byte p to its byte q: `fromAt` and `toAt` forwards, `toAt` and `fromAt` backwards
 unfoldable pub turned : ℕ → ℕ → Arc → Arc
 turned p q x = record { from = endOf p x; low = x .low; high = x .high; to = endOf q x }
 
@@ -40,7 +40,7 @@ stepArcs p q arcs set a = stepFold (map (turned p q) arcs) set a
 
 -- the record at `at` as an arc in that direction
 abbrev pub arcBytes : ℕ → ℕ → List ℕ → ℕ → Arc
-arcBytes p q s at = record { from = byte s (at + p); low = byte s (at + 2); high = byte s (at + 3); to = byte s (at + q) }
+arcBytes p q s at = record { from = byte s (at + p); low = byte s (at + lowAt); high = byte s (at + highAt); to = byte s (at + q) }
 
 -- every state of x is in y
 abbrev pub Within : ℕ → ℕ → Type 0
@@ -55,11 +55,11 @@ pub record SweptAll (p q : ℕ) (arcs : List Arc) (state set a out next : ℕ) :
 
 -- an arc's record is whole, its two ends name states that a set can hold, and it is open to no symbol past the last
 pub record ArcStands (s : List ℕ) (at p q : ℕ) : Type 0 where
-  pub whole : at + 5 ≤ length s
-  pub ends : (p ≤ 4) × (q ≤ 4)
+  pub whole : at + arcSize ≤ length s
+  pub ends : (p < arcSize) × (q < arcSize)
   pub source : byte s (at + p) < mostStates
   pub target : byte s (at + q) < mostStates
-  pub top : byte s (at + 3) < symbolCount
+  pub top : byte s (at + highAt) < symbolCount
 
 -- a number on the symbols from low to high, and 0 on the others
 unfoldable pub between : ℕ → ℕ → ℕ → ℕ → ℕ
@@ -91,8 +91,11 @@ gather (suc n) set tests gives = bitOr (gather n set tests gives) (joins set (ge
 
 -- the step of a set on either side, `back` for the right one: along the arcs on the left, against them on the right
 unfoldable pub sideArcs : Bool → List Arc → ℕ → ℕ → ℕ
-sideArcs back arcs set a = cond back (stepArcs 4 1 arcs set a) (stepArcs 1 4 arcs set a)
+sideArcs back arcs set a = cond back (stepArcs toAt fromAt arcs set a) (stepArcs fromAt toAt arcs set a)
 
 -- what becomes of such a step: the left starts are added; or the right accepts, and what the rules' masks then give
 unfoldable pub closeBy : ℕ → ℕ → List ℕ → List ℕ → Bool → ℕ → ℕ
-closeBy lefts rights starts ends back x = cond back (bitOr (bitOr rights x) (gather mostRules (bitOr rights x) starts ends)) (bitOr lefts x)
+closeBy leftStarts rightAccepts rightStarts focusAccepts back x =
+    cond back
+    (bitOr (bitOr rightAccepts x) (gather mostRules (bitOr rightAccepts x) rightStarts focusAccepts))
+    (bitOr leftStarts x)

@@ -24,12 +24,12 @@ pub const ROW_BYTES: usize = PAIRS + PAIRS;
 
 pub const SET_WORDS: usize = MOST_SETS + MOST_SETS;
 
-// BUILD's answer: the reply, its place, and the counts of left and of right sets.
+// BUILD's answer, which its callers hand on.
 pub struct Built {
-    pub reply: u8,
-    pub place: usize,
-    pub left: usize,
-    pub right: usize,
+    pub reply: u8, // 0, or why the workspace holds no automata: 1 to 8 are CHECK's, 11, 13 and 14 BUILD's own
+    pub place: usize, // the place of CHECK's refusal, 0 with every other reply
+    pub left: usize, // the count of left sets, 1 to 256 with reply 0 and 0 with every other: the left rows and sets from this number on are all 0
+    pub right: usize, // the same of the right sets
 }
 
 fn refused(reply: u8, place: usize) -> Built
@@ -47,26 +47,26 @@ fn refused(reply: u8, place: usize) -> Built
 fn number_both(
     book: &[u8],
     places: &[u16; book::STATES],
-    lefts: u64,
-    rights: u64,
-    starts: &[u64; 16],
-    ends: &[u64; 16],
+    left_starts: u64,
+    right_accepts: u64,
+    right_starts: &[u64; book::RULES],
+    focus_accepts: &[u64; book::RULES],
     rows: &mut [u8],
     sets: &mut [u64],
 ) -> Built
     requires { ⌜ checkDef (now book) .reply ≡ 0 ⌝ }
     requires { ⌜ Placed (bookOf (now book) .states) (now places) ⌝ }
-    requires { ⌜ SideMasks (bookOf (now book)) lefts rights (now starts) (now ends) ⌝ }
+    requires { ⌜ SideMasks (bookOf (now book)) «left_starts» «right_accepts» (now «right_starts») (now «focus_accepts») ⌝ }
     requires { ⌜ (rowBytes ≤ length (now rows)) × (setWords ≤ length (now sets)) ⌝ }
     ensures { λ r. ⌜ buildLeaves r (now (rows .exit)) (now (sets .exit)) ≡ numbered (sideTable (bookOf (now (book .entry))) false) (sideTable (bookOf (now (book .entry))) true) (now (rows .entry)) (now (sets .entry)) ⌝ }
 {
     let left = workspace::number_part(
         book,
         places,
-        lefts,
-        rights,
-        starts,
-        ends,
+        left_starts,
+        right_accepts,
+        right_starts,
+        focus_accepts,
         false,
         rows,
         sets,
@@ -80,10 +80,10 @@ fn number_both(
     let right = workspace::number_part(
         book,
         places,
-        lefts,
-        rights,
-        starts,
-        ends,
+        left_starts,
+        right_accepts,
+        right_starts,
+        focus_accepts,
         true,
         rows,
         sets,
@@ -111,19 +111,17 @@ pub fn number_book(book: &[u8], rows: &mut [u8], sets: &mut [u64]) -> Built
     ensures { λ r. ⌜ buildLeaves r (now (rows .exit)) (now (sets .exit)) ≡ buildDef (now (book .entry)) (now (rows .entry)) (now (sets .entry)) ⌝ }
 {
     let placed = book::outline::place_states(book);
-    let lefts = book::outline::mask_states(book, 0, 1);
-    let rights = book::outline::mask_states(book, 2, 2);
-    let right_starts = book::outline::mask_states(book, 2, 1);
-    let focus_accepts = book::outline::mask_states(book, 1, 2);
-    let starts = right_starts.each;
-    let ends = focus_accepts.each;
+    let left_starts = book::outline::mask_states(book, book::LEFT, book::START);
+    let right_accepts = book::outline::mask_states(book, book::RIGHT, book::ACCEPT);
+    let right_starts = book::outline::mask_states(book, book::RIGHT, book::START);
+    let focus_accepts = book::outline::mask_states(book, book::FOCUS, book::ACCEPT);
     number_both(
         book,
         &placed.places,
-        lefts.all,
-        rights.all,
-        &starts,
-        &ends,
+        left_starts.all,
+        right_accepts.all,
+        &right_starts.each,
+        &focus_accepts.each,
         rows,
         sets,
     )

@@ -1,6 +1,6 @@
 // The numbering of a side: nested loops over the numbered sets and the symbols, in turn. One function serves both sides; `back` is the
-// right one. Lent with the book: the places of its states, all left starts (`lefts`), all right accepts (`rights`), and of each rule the right
-// starts (`starts`) and the focus accepts (`ends`).
+// right one. Lent with the book: the places of its states, all left starts, all right accepts, and of each rule the right starts and the
+// focus accepts.
 ghost use mathlib.Core.Path.{_≡_};
 ghost use Prim.Native.Nat.{_≤_};
 ghost use lib.ListN.{length, take};
@@ -29,10 +29,10 @@ fn find(sets: &[u64], count: usize, set: u64) -> usize
 
 // The number of the set that a step gives. Where the step is the last one, so is its number: nothing is closed and nothing is sought.
 fn number_of(
-    lefts: u64,
-    rights: u64,
-    starts: &[u64; 16],
-    ends: &[u64; 16],
+    left_starts: u64,
+    right_accepts: u64,
+    right_starts: &[u64; book::RULES],
+    focus_accepts: &[u64; book::RULES],
     back: bool,
     sets: &[u64],
     count: usize,
@@ -41,13 +41,20 @@ fn number_of(
     step: u64,
 ) -> usize
     requires { ⌜ count ≤ length (now sets) ⌝ }
-    requires { ⌜ number ≡ idx (take count (now sets)) (closeBy lefts rights (now starts) (now ends) back last) ⌝ }
-    ensures { λ r. ⌜ r ≡ idx (take count (now (sets .entry))) (closeBy lefts rights (now (starts .entry)) (now (ends .entry)) back step) ⌝ }
+    requires { ⌜ number ≡ idx (take count (now sets)) (closeBy «left_starts» «right_accepts» (now «right_starts») (now «focus_accepts») back last) ⌝ }
+    ensures { λ r. ⌜ r ≡ idx (take count (now (sets .entry))) (closeBy «left_starts» «right_accepts» (now («right_starts» .entry)) (now («focus_accepts» .entry)) back step) ⌝ }
 {
     if step == last {
         return number;
     }
-    let set = super::stepping::close(lefts, rights, starts, ends, back, step);
+    let set = super::stepping::close(
+        left_starts,
+        right_accepts,
+        right_starts,
+        focus_accepts,
+        back,
+        step,
+    );
     find(sets, count, set)
 }
 
@@ -56,21 +63,28 @@ fn number_of(
 pub(crate) fn number_sets(
     book: &[u8],
     places: &[u16; book::STATES],
-    lefts: u64,
-    rights: u64,
-    starts: &[u64; 16],
-    ends: &[u64; 16],
+    left_starts: u64,
+    right_accepts: u64,
+    right_starts: &[u64; book::RULES],
+    focus_accepts: &[u64; book::RULES],
     back: bool,
     rows: &mut [u8],
     sets: &mut [u64],
 ) -> usize
     requires { ⌜ checkDef (now book) .reply ≡ 0 ⌝ }
     requires { ⌜ Placed (bookOf (now book) .states) (now places) ⌝ }
-    requires { ⌜ SideMasks (bookOf (now book)) lefts rights (now starts) (now ends) ⌝ }
+    requires { ⌜ SideMasks (bookOf (now book)) «left_starts» «right_accepts» (now «right_starts») (now «focus_accepts») ⌝ }
     requires { ⌜ Clear (now rows) (now sets) ⌝ }
     ensures { λ r. ⌜ Numbered (sideTable (bookOf (now (book .entry))) back) r (now (rows .exit)) (now (sets .exit)) ⌝ }
 {
-    sets[0] = super::stepping::close(lefts, rights, starts, ends, back, 0);
+    sets[0] = super::stepping::close(
+        left_starts,
+        right_accepts,
+        right_starts,
+        focus_accepts,
+        back,
+        0,
+    );
     let mut count: usize = 1;
     let mut k: usize = 0;
     let mut last: u64 = 0;
@@ -84,10 +98,10 @@ pub(crate) fn number_sets(
         while symbol < book::SYMBOLS {
             let step = row.each[symbol as usize];
             number = number_of(
-                lefts,
-                rights,
-                starts,
-                ends,
+                left_starts,
+                right_accepts,
+                right_starts,
+                focus_accepts,
                 back,
                 sets,
                 count,
@@ -100,7 +114,14 @@ pub(crate) fn number_sets(
                 if count == super::MOST_SETS {
                     break 'all super::MOST_SETS + 1;
                 }
-                sets[count] = super::stepping::close(lefts, rights, starts, ends, back, step);
+                sets[count] = super::stepping::close(
+                    left_starts,
+                    right_accepts,
+                    right_starts,
+                    focus_accepts,
+                    back,
+                    step,
+                );
                 count += 1;
             }
             rows[super::ROW * k + symbol as usize] = number as u8;

@@ -6,7 +6,7 @@ ghost use mathlib.Core.Path.{_≡_};
 ghost use mathlib.Core.Bool.{true};
 ghost use Prim.Native.Nat.{_+_, _<_, _≤_};
 ghost use lib.ListN.{length};
-ghost use Rattle.book.specs.Format.{byte, symbolCount, mostRules, mostStates};
+ghost use Rattle.book.specs.Format.{symbolCount, mostRules, mostStates, arcSize, fromAt, toAt, byte};
 ghost use Rattle.book.specs.Reading.{arcAt, checkDef, bookOf};
 ghost use Rattle.book.specs.Language.{stateOf};
 ghost use Rattle.book.specs.Outline.{Placed};
@@ -14,32 +14,27 @@ ghost use Rattle.sets.specs.Focus.{focusStep, focusNext};
 ghost use Rattle.sets.specs.Stepping.{hopFold, isEnd, stepArcs, arcBytes, ArcStands, SweptAll, between, Added, SweptRow, Stepped};
 ghost use Rattle.sets.specs.Stepping.{joins, gather, sideArcs, closeBy};
 
-// Where an arc's record names its two states.
-const FROM: usize = 1;
-
-const TO: usize = 4;
-
 // What the records after a state's own give, to the end of its rule.
 pub struct Swept {
-    pub out: u64, // what they add to the step of the set
-    pub next: usize, // the number of the first state past them: the states of the rule end there
+    pub out: u64, // what they add to the step of the set: no state that the arcs do not lead the set to
+    pub next: usize, // the number of the first state past them, at most 64: `focus_step` passes over the set's states below it
 }
 
 // What an arc's record adds to the step of a set. The tests only put the bit out, so that there is no branch: whether an arc is open is as
 // good as random on hostile books.
 fn hop_of(book: &[u8], at: usize, set: u64, symbol: u8) -> u64
-    requires { ⌜ at + 5 ≤ length (now book) ⌝ }
-    requires { ⌜ (byte (now book) (at + 1) < mostStates) × (byte (now book) (at + 4) < mostStates) ⌝ }
+    requires { ⌜ at + arcSize ≤ length (now book) ⌝ }
+    requires { ⌜ (byte (now book) (at + fromAt) < mostStates) × (byte (now book) (at + toAt) < mostStates) ⌝ }
     ensures { λ r. ⌜ r ≡ hopFold (arcAt (now (book .entry)) at) set symbol ⌝ }
 {
-    let mut bit = set >> book[at + 1] & 1;
-    if symbol < book[at + 2] {
+    let mut bit = set >> book[at + book::FROM] & 1;
+    if symbol < book[at + book::LOW] {
         bit = 0;
     }
-    if book[at + 3] < symbol {
+    if book[at + book::HIGH] < symbol {
         bit = 0;
     }
-    bit << book[at + 4]
+    bit << book[at + book::TO]
 }
 
 // Reads the records after a state's own, which stands at `place`, to the end of their rule: once for all states of the set.
@@ -47,21 +42,21 @@ fn sweep(book: &[u8], place: usize, state: usize, set: u64, symbol: u8) -> Swept
     requires { ⌜ checkDef (now book) .reply ≡ 0 ⌝ }
     requires { ⌜ place ≡ stateOf (bookOf (now book)) state .place ⌝ }
     requires { ⌜ 0 < place ⌝ }
-    ensures { λ r. ⌜ SweptAll 1 4 (bookOf (now (book .entry)) .arcs) state set symbol (r .out) (r .next) ⌝ }
+    ensures { λ r. ⌜ SweptAll fromAt toAt (bookOf (now (book .entry)) .arcs) state set symbol (r .out) (r .next) ⌝ }
 {
     let mut out: u64 = 0;
-    let mut at = place + 3;
+    let mut at = place + book::STATE_SIZE;
     let mut next = state + 1;
     loop {
         let kind = book[at];
         match kind {
             book::ARC => {
                 out = out | hop_of(book, at, set, symbol);
-                at += 5;
+                at += book::ARC_SIZE;
             }
             book::STATE => {
                 next += 1;
-                at += 3;
+                at += book::STATE_SIZE;
             }
             book::RULE | book::END => return Swept { out, next },
             0 | 5..=255 => return Swept { out, next }, // no such record is in an accepted book
@@ -103,7 +98,7 @@ fn joins(set: u64, test: u64, give: u64) -> u64
 }
 
 // Of each rule whose test the set meets, what it gives.
-fn gather(set: u64, tests: &[u64; 16], gives: &[u64; 16]) -> u64
+fn gather(set: u64, tests: &[u64; book::RULES], gives: &[u64; book::RULES]) -> u64
     ensures { λ r. ⌜ r ≡ gather mostRules set (now (tests .entry)) (now (gives .entry)) ⌝ }
 {
     let mut out: u64 = 0;
@@ -117,7 +112,7 @@ fn gather(set: u64, tests: &[u64; 16], gives: &[u64; 16]) -> u64
 
 // The steps of a set on all symbols.
 pub struct Row {
-    pub each: [u64; super::ROW],
+    pub each: [u64; super::ROW], // the step on each symbol, any set of states: the numbering closes it and looks for its number
 }
 
 // One bit more on each symbol from `low` to `high`.
@@ -147,7 +142,12 @@ fn add_arc(
     ensures { λ _. ⌜ Added (hopFold (arcBytes source target (now (book .entry)) at) set) (now (row .entry)) (now (row .exit)) ⌝ }
 {
     if set >> book[at + source] & 1 != 0 {
-        spread(row, book[at + 2], book[at + 3], 1u64 << book[at + target]);
+        spread(
+            row,
+            book[at + book::LOW],
+            book[at + book::HIGH],
+            1u64 << book[at + target],
+        );
     }
 }
 
@@ -169,18 +169,18 @@ fn sweep_row(
     requires { ⌜ length (now row) ≡ symbolCount ⌝ }
     ensures { λ r. ⌜ SweptRow source target (bookOf (now (book .entry)) .arcs) state set r (now (row .entry)) (now (row .exit)) ⌝ }
 {
-    let mut at = place + 3;
+    let mut at = place + book::STATE_SIZE;
     let mut next = state + 1;
     loop {
         let kind = book[at];
         match kind {
             book::ARC => {
                 add_arc(book, at, source, target, set, row);
-                at += 5;
+                at += book::ARC_SIZE;
             }
             book::STATE => {
                 next += 1;
-                at += 3;
+                at += book::STATE_SIZE;
             }
             book::RULE | book::END => return next,
             0 | 5..=255 => return next, // no such record is in an accepted book
@@ -224,29 +224,28 @@ pub(crate) fn side_row(book: &[u8], places: &[u16; book::STATES], back: bool, se
     ensures { λ r. ⌜ Stepped (sideArcs back (bookOf (now (book .entry)) .arcs) set) (r .each) ⌝ }
 {
     if back {
-        return step_row(book, places, TO, FROM, set);
+        return step_row(book, places, book::TO, book::FROM, set);
     }
-    step_row(book, places, FROM, TO, set)
+    step_row(book, places, book::FROM, book::TO, set)
 }
 
-// What becomes of such a step. On the left the left starts (`lefts`) are added, which begin anew at each position; on the right the right
-// accepts (`rights`) are added, and a focus is closed where the right context of its own rule holds: `starts` has the right starts and
-// `ends` the focus accepts of each rule.
+// What becomes of such a step. On the left all left starts are added, which begin anew at each position; on the right all right accepts are
+// added, and a focus is closed where the right context of its own rule holds, by the right starts and the focus accepts of each rule.
 pub(crate) fn close(
-    lefts: u64,
-    rights: u64,
-    starts: &[u64; 16],
-    ends: &[u64; 16],
+    left_starts: u64,
+    right_accepts: u64,
+    right_starts: &[u64; book::RULES],
+    focus_accepts: &[u64; book::RULES],
     back: bool,
     step: u64,
 ) -> u64
-    ensures { λ r. ⌜ r ≡ closeBy lefts rights (now (starts .entry)) (now (ends .entry)) back step ⌝ }
+    ensures { λ r. ⌜ r ≡ closeBy «left_starts» «right_accepts» (now («right_starts» .entry)) (now («focus_accepts» .entry)) back step ⌝ }
 {
     if back {
-        let near = rights | step;
-        return near | gather(near, starts, ends);
+        let near = right_accepts | step;
+        return near | gather(near, right_starts, focus_accepts);
     }
-    lefts | step
+    left_starts | step
 }
 
 // The focus states one symbol on, those that the right set there holds. An arc is read only from a book that CHECK accepted; the places

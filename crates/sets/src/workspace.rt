@@ -43,33 +43,43 @@ pub(crate) fn clear(rows: &mut [u8], sets: &mut [u64])
 fn number_side(
     book: &[u8],
     places: &[u16; book::STATES],
-    lefts: u64,
-    rights: u64,
-    starts: &[u64; 16],
-    ends: &[u64; 16],
+    left_starts: u64,
+    right_accepts: u64,
+    right_starts: &[u64; book::RULES],
+    focus_accepts: &[u64; book::RULES],
     back: bool,
     rows: &mut [u8],
     sets: &mut [u64],
 ) -> usize
     requires { ⌜ checkDef (now book) .reply ≡ 0 ⌝ }
     requires { ⌜ Placed (bookOf (now book) .states) (now places) ⌝ }
-    requires { ⌜ SideMasks (bookOf (now book)) lefts rights (now starts) (now ends) ⌝ }
+    requires { ⌜ SideMasks (bookOf (now book)) «left_starts» «right_accepts» (now «right_starts») (now «focus_accepts») ⌝ }
     requires { ⌜ (length (now rows) ≡ pairs) × (length (now sets) ≡ mostSets) ⌝ }
     ensures { λ r. ⌜ Numbered (sideTable (bookOf (now (book .entry))) back) r (now (rows .exit)) (now (sets .exit)) ⌝ }
 {
     clear_rows(rows);
     clear_sets(sets);
-    super::numbering::number_sets(book, places, lefts, rights, starts, ends, back, rows, sets)
+    super::numbering::number_sets(
+        book,
+        places,
+        left_starts,
+        right_accepts,
+        right_starts,
+        focus_accepts,
+        back,
+        rows,
+        sets,
+    )
 }
 
 // One side, at its place in the workspace.
 pub(crate) fn number_part(
     book: &[u8],
     places: &[u16; book::STATES],
-    lefts: u64,
-    rights: u64,
-    starts: &[u64; 16],
-    ends: &[u64; 16],
+    left_starts: u64,
+    right_accepts: u64,
+    right_starts: &[u64; book::RULES],
+    focus_accepts: &[u64; book::RULES],
     back: bool,
     rows: &mut [u8],
     sets: &mut [u64],
@@ -78,17 +88,17 @@ pub(crate) fn number_part(
 ) -> usize
     requires { ⌜ checkDef (now book) .reply ≡ 0 ⌝ }
     requires { ⌜ Placed (bookOf (now book) .states) (now places) ⌝ }
-    requires { ⌜ SideMasks (bookOf (now book)) lefts rights (now starts) (now ends) ⌝ }
+    requires { ⌜ SideMasks (bookOf (now book)) «left_starts» «right_accepts» (now «right_starts») (now «focus_accepts») ⌝ }
     requires { ⌜ (row + pairs ≤ length (now rows)) × (set + mostSets ≤ length (now sets)) ⌝ }
     ensures { λ r. ⌜ NumberedAt (sideTable (bookOf (now (book .entry))) back) r row set (now (rows .entry)) (now (sets .entry)) (now (rows .exit)) (now (sets .exit)) ⌝ }
 {
     number_side(
         book,
         places,
-        lefts,
-        rights,
-        starts,
-        ends,
+        left_starts,
+        right_accepts,
+        right_starts,
+        focus_accepts,
         back,
         &mut rows[row..row + super::PAIRS],
         &mut sets[set..set + super::MOST_SETS],

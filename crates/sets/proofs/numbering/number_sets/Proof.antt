@@ -18,19 +18,19 @@ use Rattle.sets.proofs.numbering.number_sets.Statement.{statement}
 use Rattle.sets.proofs.numbering.number_sets.Tie as tie
 
 abbrev Inv-loop : tie.InvT-loop
-Inv-loop book places lefts rights starts ends back rows₀ sets₀ count₀ k last₀ number₀ row symbol₀ rows sets count last number symbol =
-    In (sideStep (bookOf book) back) (closeBy lefts rights starts ends back) (sideFirst (bookOf book) back) k symbol (row .each) rows sets count last number
+Inv-loop book places leftStarts rightAccepts rightStarts focusAccepts back rows₀ sets₀ count₀ k last₀ number₀ row symbol₀ rows sets count last number symbol =
+    In (sideStep (bookOf book) back) (closeBy leftStarts rightAccepts rightStarts focusAccepts back) (sideFirst (bookOf book) back) k symbol (row .each) rows sets count last number
 
 abbrev μ-loop : tie.MeasureT-loop
-μ-loop book places lefts rights starts ends back rows₀ sets₀ count₀ k last₀ number₀ row symbol₀ rows sets count last number symbol =
+μ-loop book places leftStarts rightAccepts rightStarts focusAccepts back rows₀ sets₀ count₀ k last₀ number₀ row symbol₀ rows sets count last number symbol =
     symbolCount - symbol
 
 abbrev Inv-all : tie.InvT-all
-Inv-all book places lefts rights starts ends back rows₀ sets₀ count₀ k₀ last₀ number₀ rows sets count k last number =
-    Before (sideStep (bookOf book) back) (closeBy lefts rights starts ends back) (sideFirst (bookOf book) back) k rows sets count last number
+Inv-all book places leftStarts rightAccepts rightStarts focusAccepts back rows₀ sets₀ count₀ k₀ last₀ number₀ rows sets count k last number =
+    Before (sideStep (bookOf book) back) (closeBy leftStarts rightAccepts rightStarts focusAccepts back) (sideFirst (bookOf book) back) k rows sets count last number
 
 abbrev μ-all : tie.MeasureT-all
-μ-all book places lefts rights starts ends back rows₀ sets₀ count₀ k₀ last₀ number₀ rows sets count k last number =
+μ-all book places leftStarts rightAccepts rightStarts focusAccepts back rows₀ sets₀ count₀ k₀ last₀ number₀ rows sets count k last number =
     mostSets - k
 
 close-requires : tie.Need-close-requires Inv-loop μ-loop Inv-all μ-all

@@ -2,6 +2,7 @@
 use Prim.Native.Nat.{_-_}
 use native.Mathlib.Omega.{arith}
 use lib.ListN.{length}
+use Rattle.book.specs.Format.{fromAt, toAt}
 use Rattle.book.specs.Reading.{bookOf}
 use Rattle.book.proofs.Placing.{place-fits}
 use Rattle.sets.proofs.Sweep.{no-kind, other-kind, sweep-start, sweep-passed, sweep-state}
@@ -18,13 +19,13 @@ abbrev μ-loop : tie.MeasureT-loop
 -- src/stepping.rt:172:18
 add-at : tie.Need-add-at Inv-loop μ-loop
 add-at c =
-    let i = sweep-start 1 4 _ _ _ 0 0 (c .before .pre .0) (c .before .pre .1 .0) (c .before .pre .1 .1 .0) in
+    let i = sweep-start fromAt toAt _ _ _ 0 0 (c .before .pre .0) (c .before .pre .1 .0) (c .before .pre .1 .1 .0) in
     omega (arith, place-fits _ _ _ _ (i .walk))
 
 -- src/stepping.rt:173:20
 add-next : tie.Need-add-next Inv-loop μ-loop
 add-next c =
-    let i = sweep-start 1 4 _ _ _ 0 0 (c .before .pre .0) (c .before .pre .1 .0) (c .before .pre .1 .1 .0) in
+    let i = sweep-start fromAt toAt _ _ _ 0 0 (c .before .pre .0) (c .before .pre .1 .0) (c .before .pre .1 .1 .0) in
     omega (arith, i .count, i .walk .sound .states)
 
 -- src/stepping.rt:174:5
