@@ -13,7 +13,7 @@ use Rattle.sets.specs.Workspace.{rowBytes, setWords, leftTable, rightTab
 use Rattle.sets.specs.Tables.{leftCount, rightCount}
 use Rattle.sets.specs.Counting.{leftOver, rightOver, Exactly, MoreThan}
 use Rattle.sets.proofs.Counts.{front, end, law-exactly, law-many, law-few}
-use Rattle.sets.proofs.WaysOut.{Room, Way, refused, short, many-left, many-right, built, way}
+use Rattle.sets.proofs.WaysOut.{Buildable, Way, refused, short, many-left, many-right, built, way}
 
 -- more than 256 left sets, right sets, by the numbering and over all tapes
 pub left-many : (book : List ℕ) → (mostSets < leftCount book) ↔ MoreThan (leftOver (bookOf book)) mostSets
@@ -52,33 +52,33 @@ module _ (book R S : List ℕ) where
   pub right-count : reply (buildDef book R S) ≡ 0 → Exactly (rightOver (bookOf book)) (buildDef book R S .answer .right)
   right-count z = let c = counts (buildDef book R S) (way book R S) z in rw (c .1) (right-exactly book (c .3))
 
--- the reply of an accepted book in a workspace that is long enough
-data Judged (book : List ℕ) (r : ℕ) : Type 0 where
-  left : mostSets < leftCount book → r ≡ 13 → Judged book r
-  right : leftCount book ≤ mostSets → mostSets < rightCount book → r ≡ 14 → Judged book r
-  neither : leftCount book ≤ mostSets → rightCount book ≤ mostSets → r ≡ 0 → Judged book r
+-- the reply of an accepted book in a workspace that is long enough, by the two counts
+data CountReply (book : List ℕ) (r : ℕ) : Type 0 where
+  left : mostSets < leftCount book → r ≡ 13 → CountReply book r
+  right : leftCount book ≤ mostSets → mostSets < rightCount book → r ≡ 14 → CountReply book r
+  neither : leftCount book ≤ mostSets → rightCount book ≤ mostSets → r ≡ 0 → CountReply book r
 
-module _ (book R S : List ℕ) (o : Room book R S) where
-  no-room : (length R < rowBytes) ⊎ (length S < setWords) → ⊥
-  no-room (inl h) = omega (arith, o .rows)
-  no-room (inr h) = omega (arith, o .sets)
+module _ (book R S : List ℕ) (o : Buildable book R S) where
+  not-short : (length R < rowBytes) ⊎ (length S < setWords) → ⊥
+  not-short (inl h) = omega (arith, o .rows)
+  not-short (inr h) = omega (arith, o .sets)
 
-  judge : (x : AfterBuild) → Way book R S x → Judged book (reply x)
-  judge x (refused h e) = absurd (h (o .accepted))
-  judge x (short h s e) = absurd (no-room s)
-  judge x (many-left p l e) = left l (ap reply e)
-  judge x (many-right p l r e) = right l r (ap reply e)
-  judge x (built p l r e) = neither l r (ap reply e)
+  way-counted : (x : AfterBuild) → Way book R S x → CountReply book (reply x)
+  way-counted x (refused h e) = absurd (h (o .accepted))
+  way-counted x (short h s e) = absurd (not-short s)
+  way-counted x (many-left p l e) = left l (ap reply e)
+  way-counted x (many-right p l r e) = right l r (ap reply e)
+  way-counted x (built p l r e) = neither l r (ap reply e)
 
-  judged : Judged book (reply (buildDef book R S))
-  judged = judge (buildDef book R S) (way book R S)
+  reply-counted : CountReply book (reply (buildDef book R S))
+  reply-counted = way-counted (buildDef book R S) (way book R S)
 
-  by-left : (r : ℕ) → Judged book r → (r ≡ 13) ↔ (mostSets < leftCount book)
+  by-left : (r : ℕ) → CountReply book r → (r ≡ 13) ↔ (mostSets < leftCount book)
   by-left r (left h e) = (λ _. h, λ _. e)
   by-left r (right h g e) = (λ z. absurd (omega arith), λ l. absurd (omega arith))
   by-left r (neither h g e) = (λ z. absurd (omega arith), λ l. absurd (omega arith))
 
-  by-right : (r : ℕ) → Judged book r → (r ≡ 14) ↔ ((leftCount book ≤ mostSets) × (mostSets < rightCount book))
+  by-right : (r : ℕ) → CountReply book r → (r ≡ 14) ↔ ((leftCount book ≤ mostSets) × (mostSets < rightCount book))
   by-right r (left h e) = (λ z. absurd (omega arith), λ l. absurd (omega arith))
   by-right r (right h g e) = (λ _. (h, g), λ _. e)
   by-right r (neither h g e) = (λ z. absurd (omega arith), λ l. absurd (omega arith))
@@ -92,11 +92,11 @@ module _ (book R S : List ℕ) (o : Room book R S) where
 
   -- 13 exactly when there are more than 256 left sets; 14 exactly when there are not, and more than 256 right sets
   pub reply-13 : (reply (buildDef book R S) ≡ 13) ↔ MoreThan (leftOver (bookOf book)) mostSets
-  reply-13 = let p = by-left _ judged in let q = left-many book in (λ z. q .0 (p .0 z), λ m. p .1 (q .1 m))
+  reply-13 = let p = by-left _ reply-counted in let q = left-many book in (λ z. q .0 (p .0 z), λ m. p .1 (q .1 m))
 
   pub reply-14 : (reply (buildDef book R S) ≡ 14) ↔ ((MoreThan (leftOver (bookOf book)) mostSets → ⊥) × MoreThan (rightOver (bookOf book)) mostSets)
   reply-14 =
-      let p = by-right _ judged in
+      let p = by-right _ reply-counted in
       let f = at-most _ _ (left-many book) in
       let q = right-many book in
       (λ z. let h = p .0 z in (f .0 (h .0), q .0 (h .1)), λ m. p .1 (f .1 (m .0), q .1 (m .1)))

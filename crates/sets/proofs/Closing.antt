@@ -1,27 +1,24 @@
 -- The sets that the code gives are those of the definitions: state by state, for every number.
-use Prim.Native.Nat.{ℕ, zero, suc, _^_, _≤_, _<_, zero-le}
-use mathlib.Core.Path.{_≡_, refl, ap, ap₂, sym, subst, _∙_}
+use Prim.Native.Nat.{ℕ, zero, suc, _≤_, _<_}
+use mathlib.Core.Path.{_≡_, refl, ap, ap₂, sym, _∙_}
 use mathlib.Core.Logic.{_≢_}
-use mathlib.Core.Bool.{Bool, true, false, cond, not, _&&_, _||_}
+use mathlib.Core.Bool.{Bool, true, false, not, _&&_, _||_}
 use mathlib.Core.Bool as B
 use mathlib.Core.List.{List, [], _∷_, map}
 use native.Mathlib.Decide.{ℕ-discrete, decLt}
 use native.Mathlib.Omega.{arith}
-use lib.Dec.{T, T-not, not-T, eqb, leb, ltb, eqb→eq}
-use lib.Bits.{bitOr, bitAnd, and-le-r}
-use lib.Count.{trailingZeros}
+use lib.Dec.{eqb, leb, ltb}
+use lib.Bits.{bitOr, bitAnd}
 use lib.ListN.{length, getD, List·getD-eq-default}
 use borrow.Author.Tests.{eq-eqb, ne-eqb, lt-ltb, le-ltb}
-use Rattle.book.specs.Format.{leftPart, focusPart, rightPart, startFlag, acceptFlag, fromAt, toAt, mostRules, mostStates}
+use Rattle.book.specs.Format.{leftPart, focusPart, rightPart, startFlag, acceptFlag, fromAt, toAt, mostRules}
 use Rattle.book.specs.Reading.{State, Arc, Book}
-use Rattle.book.specs.Language.{any, someState, opens, noState, stateOf, isOf, starts, ends, isStart, isAccept}
+use Rattle.book.specs.Language.{any, someState, opens, noState, stateOf, isOf, starts, ends, isStart}
 use Rattle.book.specs.Outline.{ruleMask, allMask, EachMask}
 use Rattle.book.specs.Sound.{Sound, noArc, arcOf}
-use Rattle.book.specs.StateSets.{member, encode}
-use Rattle.book.proofs.Bits.{member-or, member-and, member-none, member-encode, member-past, encode-lt, ext, lowest}
-use Rattle.book.proofs.Masking.{no-state}
-use Rattle.book.proofs.Tests.{same-test, any-up}
-use Rattle.sets.specs.Sets.{setOf, intoBy, backBy, leftFirst, leftNext, near, closed, rightLast, rightPrev}
+use Rattle.book.specs.StateSets.{member}
+use Rattle.book.proofs.Bits.{member-or, member-none, ext}
+use Rattle.sets.specs.Sets.{intoBy, backBy, leftFirst, leftNext, near, closed, rightLast, rightPrev}
 use Rattle.sets.specs.Focus.{focusStep}
 use Rattle.sets.specs.Stepping.{leaves, turned, stepArcs, joins, gather}
 use Rattle.sets.proofs.Folds.{member-step}

@@ -1,7 +1,7 @@
 -- The masks of a book. Their members, for every number; what a set and a mask have in common; and what is given rule by rule, as the loops
 -- over the rules gather it. Assumes nothing.
 use Prim.Native.Nat.{ℕ, suc, _≤_, _<_, zero-le}
-use mathlib.Core.Path.{_≡_, refl, ap, ap₂, sym, subst, _∙_}
+use mathlib.Core.Path.{_≡_, refl, ap, sym, subst, _∙_}
 use mathlib.Core.Logic.{_≢_}
 use mathlib.Core.Bool.{Bool, true, false, cond, not, _&&_, _||_}
 use mathlib.Core.Bool as B

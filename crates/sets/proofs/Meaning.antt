@@ -24,7 +24,7 @@ use Rattle.book.proofs.Tests.{Cut, cut-eq, and-both, and-left, and-right, same-
 use Rattle.sets.specs.Sets.{setOf, intoBy, leftFirst, leftNext, rightLast, rightPrev, after, before, leftAt, rightAt}
 use Rattle.sets.specs.Focus.{meetsAccept, meetsStart, mayStart, focusFirst, openedBy, openedBelow, focusStep, focusNext, pruned, focusAt}
 use Rattle.sets.proofs.Runs as Runs
-use Rattle.sets.proofs.Runs.{Start, Accept, Run, LeftHolds, RightHolds, Applies, LeftRun, RightRun, FocusRun, Later, run-rule, run-part}
+use Rattle.sets.proofs.Runs.{Start, Accept, LeftHolds, RightHolds, Applies, LeftRun, RightRun, FocusRun, Later, run-rule, run-part}
 use Rattle.sets.proofs.Bridge.{machine, book-stays, starts-in, starts-out, ends-in, ends-out, leads-in, leads-out, left-iff, right-iff, applies-iff}
 use Rattle.sets.proofs.Slices.{take-cut, slice-cut, slice-join, slice-snoc, cut-front, cut-rest, cut-length, slice-take}
 use Rattle.sets.proofs.Masks as Masks
@@ -221,15 +221,15 @@ module _ (b : Book) (h : Sound b) (t : List ℕ) where
   -- the left language of r holds at i exactly if the left set at i meets r's left accept states
   pub left-holds : (r i : ℕ) → rules b .left r (take i t) ≡ meetsAccept b r leftPart (leftAt b t i)
   left-holds r i = same-test (someEnd (accepts b r leftPart) (take i t)) (meetsAccept b r leftPart (leftAt b t i)) (
-    λ x. meets-accept b r 0 (leftAt b t i) .1 (left-test r i .0 (left-iff b r (take i t) .0 x)),
-    λ x. left-iff b r (take i t) .1 (left-test r i .1 (meets-accept b r 0 (leftAt b t i) .0 x)),
+    λ x. meets-accept b r leftPart (leftAt b t i) .1 (left-test r i .0 (left-iff b r (take i t) .0 x)),
+    λ x. left-iff b r (take i t) .1 (left-test r i .1 (meets-accept b r leftPart (leftAt b t i) .0 x)),
   )
 
   -- the right language of r holds at i exactly if the right set at i meets r's right start states
   pub right-holds : (r i : ℕ) → rules b .right r (drop i t) ≡ meetsStart b r rightPart (rightAt b t i)
   right-holds r i = same-test (someFront (accepts b r rightPart) (drop i t)) (meetsStart b r rightPart (rightAt b t i)) (
-    λ x. meets-start b r 2 (rightAt b t i) .1 (right-test r i .0 (right-iff b r (drop i t) .0 x)),
-    λ x. right-iff b r (drop i t) .1 (right-test r i .1 (meets-start b r 2 (rightAt b t i) .0 x)),
+    λ x. meets-start b r rightPart (rightAt b t i) .1 (right-test r i .0 (right-iff b r (drop i t) .0 x)),
+    λ x. right-iff b r (drop i t) .1 (right-test r i .1 (meets-start b r rightPart (rightAt b t i) .0 x)),
   )
 
   -- ---- the pruned walk from i
@@ -248,42 +248,13 @@ module _ (b : Book) (h : Sound b) (t : List ℕ) where
     alive j k = Runs.alive (machine b) ℕ In (book-stays h) (rightLast b) (rightPrev b) (last-law b) (prev-law b h) (focusNext b) (focus-next-law b h)
         (take i t) (focusFirst b (leftAt b t i) (rightAt b t i)) (drop i t) first-set (slice-cut t i j k)
 
-    -- the focus set from i at j holds the focus states that the stretch leads to from a start state of a rule whose left language holds at i,
-    -- as far as they are in the right set at j
-    pub focus-at : (j s : ℕ) → i ≤ j → T (member (focusAt b t i j) s) ↔
-        ((start : ℕ) × T (starts b focusPart start) × T (rules b .left (stateOf b start .rule) (take i t)) × T (leads (b .arcs) start (slice i j t) s) × T (member (rightAt b t j) s))
-    unfolding focusAt rightAt
-    focus-at j s k = (
-      λ x. let z = law .0 x in let y = first-set (z .0) .0 (z .1) .0 in (
-        z .0,
-        starts-in b (y .1),
-        left-iff b (stateOf b (z .0) .rule) (take i t) .1 (subst (λ (r : ℕ). LeftHolds (machine b) r (take i t)) (sym (y .1 .of)) (y .2)),
-        leads-in b (z .2),
-        z .3,
-      ),
-      λ z. let run = leads-out b (slice i j t) (z .0) s (z .3) in
-          let here = Runs.back-run (machine b) ℕ In (book-stays h) (rightLast b) (rightPrev b) (last-law b) (prev-law b h) (slice-cut t i j k) run (z .4) in
-          law .1 (
-            z .0,
-            first-set (z .0) .1 ((stateOf b (z .0) .rule, starts-out b focusPart (z .0) (z .1), left-iff b (stateOf b (z .0) .rule) (take i t) .0 (z .2)), here),
-            run,
-            z .4,
-          ),
-    )
-      where
-        law : In s (pruned (focusNext b) (before (rightLast b) (rightPrev b)) (focusFirst b (leftAt b t i) (rightAt b t i)) (slice i j t) (drop j t))
-            ↔ ((p : ℕ) × In p (focusFirst b (leftAt b t i) (rightAt b t i)) × Run (machine b) p (slice i j t) s × In s (before (rightLast b) (rightPrev b) (drop j t)))
-        law = Runs.pruned-set (machine b) ℕ In (book-stays h) (rightLast b) (rightPrev b) (last-law b) (prev-law b h) (focusNext b) (focus-next-law b h)
-            (slice i j t) (focusFirst b (leftAt b t i) (rightAt b t i)) (drop j t) s
-            (λ p x. subst (λ (w : List ℕ). In p (before (rightLast b) (rightPrev b) w)) (cut-eq (slice-cut t i j k)) (first-set p .0 x .1))
-
     -- r applies to the stretch from i to j exactly if the focus set from i at j meets r's focus accept states and the right set at j its right start states
     pub focus-test : (j r : ℕ) → i ≤ j → applies b t i j r ≡ (meetsAccept b r focusPart (focusAt b t i j) && meetsStart b r rightPart (rightAt b t j))
     focus-test j r k = same-test (applies b t i j r) (A && B) (
       λ x. let y = accepting r j k .0 (applies-iff b r (take i t) (slice i j t) (drop j t) .0 x) in
-          and-both A B (meets-accept b r 1 (focusAt b t i j) .1 (y .0)) (meets-start b r 2 (rightAt b t j) .1 (right-test r j .0 (y .1))),
+          and-both A B (meets-accept b r focusPart (focusAt b t i j) .1 (y .0)) (meets-start b r rightPart (rightAt b t j) .1 (right-test r j .0 (y .1))),
       λ x. applies-iff b r (take i t) (slice i j t) (drop j t) .1 (accepting r j k .1
-          (meets-accept b r 1 (focusAt b t i j) .0 (and-left A B x), right-test r j .1 (meets-start b r 2 (rightAt b t j) .0 (and-right A B x)))),
+          (meets-accept b r focusPart (focusAt b t i j) .0 (and-left A B x), right-test r j .1 (meets-start b r rightPart (rightAt b t j) .0 (and-right A B x)))),
     )
       where
         A : Bool

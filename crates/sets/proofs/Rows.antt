@@ -1,6 +1,6 @@
 -- The steps of a set on all symbols in one row: an arc's bit is spread over its symbols, each arc record read adds its hop, and the records of a rule
 -- are read once for all its states in the set. Assumes nothing.
-use Prim.Native.Nat.{ℕ, _+_, _/_, _%_, _^_, _≤_, _<_}
+use Prim.Native.Nat.{ℕ, _+_, _^_, _≤_, _<_}
 use mathlib.Core.Path.{_≡_, refl, ap, ap₂, sym, subst, _∙_}
 use mathlib.Core.Logic.{_≢_, _⊎_}
 use mathlib.Core.Bool.{Bool, true, false, cond, _&&_}
@@ -8,12 +8,12 @@ use mathlib.Core.List.{List}
 use native.Mathlib.Decide.{ℕ-discrete, decLt}
 use native.Mathlib.Omega.{arith}
 use lib.Dec.{leb}
-use lib.Bits.{bitOr, bitAnd, or-zero-r, and-mask}
+use lib.Bits.{bitOr, or-zero-r}
 use lib.Count.{trailingZeros}
 use lib.ListN.{length, getD, set, replicate, length-set}
 use lib.Seq.{getD-set-same, getD-set-other}
-use borrow.Author.Tests.{eq-eqb, le-leb, lt-leb}
-use Rattle.book.specs.Format.{fromAt, toAt, symbolCount, mostRules, mostStates, byte, recordSize}
+use borrow.Author.Tests.{le-leb, lt-leb}
+use Rattle.book.specs.Format.{arcSize, stateSize, arcKind, stateKind, ruleKind, endKind, fromAt, toAt, symbolCount, mostRules, mostStates, byte, recordSize}
 use Rattle.book.specs.Reading.{Arc, Book, arcAt, bookOf, checkDef}
 use Rattle.book.specs.Language.{stateOf}
 use Rattle.book.specs.Sound.{Sound}
@@ -93,18 +93,6 @@ spread-end low high bit row₀ row i w h =
       each = λ a l. sym (or-zero-r (getD row a 0)) ∙ ap (bitOr (getD row a 0)) (sym (between-none i high bit a h)) ∙ w .each a l;
     }
 
--- the test of one bit is the test of membership
-bit-is : (x s : ℕ) → bitAnd (x / 2 ^ s) 1 ≡ x / 2 ^ s % 2
-bit-is x s = and-mask (x / 2 ^ s) 1
-
-pub held : (x s : ℕ) → bitAnd (x / 2 ^ s) 1 ≢ 0 → member x s ≡ true
-unfolding member
-held x s f = let e : x / 2 ^ s % 2 ≡ 1 = omega (arith, f, bit-is x s) in eq-eqb _ _ e
-
-pub not-held : (x s : ℕ) → bitAnd (x / 2 ^ s) 1 ≡ 0 → member x s ≡ false
-unfolding member
-not-held x s e = let z : x / 2 ^ s % 2 ≡ 0 = omega (arith, bit-is x s) in rw z
-
 -- an arc from a state of the set adds its bit on its symbols, another one nothing
 pub add-held : (x : Arc) (set bit : ℕ) (row row′ : List ℕ) → member set (x .from) ≡ true → bit ≡ 2 ^ x .to → Added (between (x .low) (x .high) bit) row row′ → Added (hopFold x set) row row′
 unfolding between hopFold
@@ -138,7 +126,7 @@ pub record SteppingRow (p q : ℕ) (arcs : List Arc) (set left done : ℕ) (row 
 module _ (p q : ℕ) where
   pub sweep-row-start : (s : List ℕ) (state place set : ℕ) (row : List ℕ) → checkDef s .reply ≡ 0 → place ≡ stateOf (bookOf s) state .place → 0 < place
       → length row ≡ symbolCount
-      → SweepingRow p q s (bookOf s) state set (place + 3) (state + 1) row row
+      → SweepingRow p q s (bookOf s) state set (place + stateSize) (state + 1) row row
   sweep-row-start s state place set row z e h l =
       record {
         more = λ a. 0;
@@ -151,7 +139,7 @@ module _ (p q : ℕ) where
     pub on-zero : Sweeping p q s B state set 0 (i .more 0) at next
     on-zero = i .sweeping 0
 
-    pub row-stands : isEnd p ≡ true → isEnd q ≡ true → byte s at ≡ 3 → ArcStands s at p q
+    pub row-stands : isEnd p ≡ true → isEnd q ≡ true → byte s at ≡ arcKind → ArcStands s at p q
     row-stands e f k =
         let x = arcAt s at in
         let w = sweep-arc p q s B state set 0 (i .more 0) at next on-zero k in
@@ -163,8 +151,8 @@ module _ (p q : ℕ) where
           top = sweep-ends p q s B state set 0 (i .more 0) at next on-zero k .top;
         }
 
-    pub sweep-row-arc : (row′ : List ℕ) → isEnd p ≡ true → isEnd q ≡ true → byte s at ≡ 3 → Added (hopFold (arcBytes p q s at) set) row row′
-        → SweepingRow p q s B state set (at + 5) next row₀ row′
+    pub sweep-row-arc : (row′ : List ℕ) → isEnd p ≡ true → isEnd q ≡ true → byte s at ≡ arcKind → Added (hopFold (arcBytes p q s at) set) row row′
+        → SweepingRow p q s B state set (at + arcSize) next row₀ row′
     sweep-row-arc row′ e f k w =
         record {
           more = λ a. bitOr (i .more a) (hopFold (arcBytes p q s at) set a);
@@ -180,13 +168,13 @@ module _ (p q : ℕ) where
               };
         }
 
-    pub sweep-row-state : byte s at ≡ 2 → SweepingRow p q s B state set (at + 3) (next + 1) row₀ row
+    pub sweep-row-state : byte s at ≡ stateKind → SweepingRow p q s B state set (at + stateSize) (next + 1) row₀ row
     sweep-row-state k = record { more = i .more; sweeping = λ a. sweep-turn-state p q s B state set a (i .more a) at next (i .sweeping a) k; added = i .added }
 
     swept : ((a : ℕ) → SweptAll p q (B .arcs) state set a (i .more a) next) → SweptRow p q (B .arcs) state set next row₀ row
     swept f = record { more = i .more; swept = f; added = i .added }
 
-    pub sweep-row-end : (byte s at ≡ 1) ⊎ (byte s at ≡ 4) → SweptRow p q (B .arcs) state set next row₀ row
+    pub sweep-row-end : (byte s at ≡ ruleKind) ⊎ (byte s at ≡ endKind) → SweptRow p q (B .arcs) state set next row₀ row
     sweep-row-end k = swept (λ a. sweep-end p q s B state set a (i .more a) at next (i .sweeping a) k)
 
     pub sweep-row-none : recordSize (byte s at) ≡ 0 → SweptRow p q (B .arcs) state set next row₀ row

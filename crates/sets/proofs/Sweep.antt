@@ -17,7 +17,7 @@ use lib.Count.{trailingZeros}
 use lib.ListN.{length, getD, length-append, List·getD-eq-default}
 use borrow.Author.Tests.{eqb-true, ne-eqb}
 use Rattle.book.proofs.Bits.{member-or, member-one, ext, or-assoc, worth, without, Lowest, lowest, lowest-or}
-use Rattle.book.specs.Format.{mostStates, byte, recordSize}
+use Rattle.book.specs.Format.{fromAt, toAt, arcSize, stateSize, arcKind, stateKind, ruleKind, endKind, mostStates, byte, recordSize}
 use Rattle.book.specs.Reading.{State, Arc, Book, arcAt, withRecord, bookOf, checkDef, scanOf}
 use Rattle.book.specs.Language.{noState, stateOf}
 use Rattle.book.specs.Sound.{Sound, noArc}
@@ -34,6 +34,7 @@ use Rattle.sets.proofs.Ends.{end-is, turned-snoc}
 
 -- ---- one arc's record, read without a branch
 
+-- the test of one bit is the test of membership
 bit-of : (set s : ℕ) → bitAnd (set / 2 ^ s) 1 ≡ cond (member set s) 1 0
 unfolding member
 bit-of set s = and-mask (set / 2 ^ s) 1 ∙ go (set / 2 ^ s % 2) (mod-lt (set / 2 ^ s) (omega arith))
@@ -42,6 +43,20 @@ bit-of set s = and-mask (set / 2 ^ s) 1 ∙ go (set / 2 ^ s % 2) (mod-lt (set / 
     go zero h = refl
     go (suc zero) h = refl
     go (suc (suc d)) h = absurd (omega arith)
+
+pub held : (set s : ℕ) → bitAnd (set / 2 ^ s) 1 ≢ 0 → member set s ≡ true
+held set s f = go (member set s) (bit-of set s)
+  where
+    go : (b : Bool) → bitAnd (set / 2 ^ s) 1 ≡ cond b 1 0 → b ≡ true
+    go true e = refl
+    go false e = absurd (f e)
+
+pub not-held : (set s : ℕ) → bitAnd (set / 2 ^ s) 1 ≡ 0 → member set s ≡ false
+not-held set s z = go (member set s) (bit-of set s)
+  where
+    go : (b : Bool) → bitAnd (set / 2 ^ s) 1 ≡ cond b 1 0 → b ≡ false
+    go true e = absurd (omega arith)
+    go false e = refl
 
 pub hop-bits : (x : Arc) (set a one two three : ℕ) → x .to < mostStates → one ≡ bitAnd (set / 2 ^ x .from) 1 → two ≡ cond (leb (x .low) a) one 0 → three ≡ cond (leb a (x .high)) two 0
     → (three * 2 ^ x .to) % 2 ^ 64 ≡ hopFold x set a
@@ -114,18 +129,18 @@ pub no-kind : (k : ℕ) → k ≡ 0 → recordSize k ≡ 0
 unfolding recordSize
 no-kind k e = rw e
 
-pub other-kind : (k : ℕ) → k ≢ 3 → k ≢ 2 → ((k ≡ 1) ⊎ (k ≡ 4) → ⊥) → recordSize k ≡ 0
+pub other-kind : (k : ℕ) → k ≢ arcKind → k ≢ stateKind → ((k ≡ ruleKind) ⊎ (k ≡ endKind) → ⊥) → recordSize k ≡ 0
 unfolding recordSize
-other-kind k f g h = simp (ne-eqb k 1 (λ e. h (inl e)), ne-eqb k 2 g, ne-eqb k 3 f, ne-eqb k 4 (λ e. h (inr e)))
+other-kind k f g h = simp (ne-eqb k ruleKind (λ e. h (inl e)), ne-eqb k stateKind g, ne-eqb k arcKind f, ne-eqb k endKind (λ e. h (inr e)))
 
 -- an arc's record names states of the latest rule, which a set can hold
-arc-stands : (s : List ℕ) (at : ℕ) (b B : Book) → Walk s at b B → byte s at ≡ 3 → ArcPassed b (arcAt s at)
+arc-stands : (s : List ℕ) (at : ℕ) (b B : Book) → Walk s at b B → byte s at ≡ arcKind → ArcPassed b (arcAt s at)
 arc-stands s at b B w k = arc-passed b (arcAt s at) (kind-arc s at b (walk-passed s at b B w .kind) k)
 
 first-grows : (s : List ℕ) (at : ℕ) (b B : Book) → Walk s at b B → b .first ≤ withRecord s at b .first
-first-grows s at b B w = go (ℕ-discrete (byte s at) 1)
+first-grows s at b B w = go (ℕ-discrete (byte s at) ruleKind)
   where
-    go : Dec (byte s at ≡ 1) → b .first ≤ withRecord s at b .first
+    go : Dec (byte s at ≡ ruleKind) → b .first ≤ withRecord s at b .first
     go (yes k) = rw (first-rule s at b k) (w .sound .first)
     go (no k) = rw (first-same s at b k) (omega arith)
 
@@ -205,14 +220,14 @@ module _ (p q : ℕ) where
   module _ (s : List ℕ) (at : ℕ) (b B : Book) (w : Walk s at b B) where
     -- the step only grows
     step-grows : (x a : ℕ) → Within (stepArcs p q (b .arcs) x a) (stepArcs p q (withRecord s at b .arcs) x a)
-    step-grows x a = go (ℕ-discrete (byte s at) 3)
+    step-grows x a = go (ℕ-discrete (byte s at) arcKind)
       where
-        go : Dec (byte s at ≡ 3) → Within (stepArcs p q (b .arcs) x a) (stepArcs p q (withRecord s at b .arcs) x a)
+        go : Dec (byte s at ≡ arcKind) → Within (stepArcs p q (b .arcs) x a) (stepArcs p q (withRecord s at b .arcs) x a)
         go (yes k) = rw (arcs-more s at b k, turned-snoc) (within-left (stepArcs p q (b .arcs) x a) (hopFold (turned p q (arcAt s at)) x a))
         go (no k) = rw (arcs-same s at b k) (or-self (stepArcs p q (b .arcs) x a))
 
     -- and of a state of an earlier rule it stays
-    arc-past : (t a : ℕ) → t < b .first → byte s at ≡ 3 → hopFold (turned p q (arcAt s at)) (2 ^ t) a ≡ 0
+    arc-past : (t a : ℕ) → t < b .first → byte s at ≡ arcKind → hopFold (turned p q (arcAt s at)) (2 ^ t) a ≡ 0
     unfolding turned
     arc-past t a h k =
         let v = arc-stands s at b B w k in
@@ -220,9 +235,9 @@ module _ (p q : ℕ) where
         (end-is (λ j. j ≢ t) p (arcAt s at) (λ e. absurd (omega (arith, v .from .0))) (λ e. absurd (omega (arith, v .to .0))))
 
     step-stays : (t a : ℕ) → t < b .first → stepArcs p q (withRecord s at b .arcs) (2 ^ t) a ≡ stepArcs p q (b .arcs) (2 ^ t) a
-    step-stays t a h = go (ℕ-discrete (byte s at) 3)
+    step-stays t a h = go (ℕ-discrete (byte s at) arcKind)
       where
-        go : Dec (byte s at ≡ 3) → stepArcs p q (withRecord s at b .arcs) (2 ^ t) a ≡ stepArcs p q (b .arcs) (2 ^ t) a
+        go : Dec (byte s at ≡ arcKind) → stepArcs p q (withRecord s at b .arcs) (2 ^ t) a ≡ stepArcs p q (b .arcs) (2 ^ t) a
         go (yes k) =
             rw (arcs-more s at b k)
             (turned-snoc p q (b .arcs) (arcAt s at) (2 ^ t) a
@@ -243,11 +258,11 @@ module _ (p q : ℕ) where
   -- ---- the sweep
 
   pub sweep-start : (s : List ℕ) (state place set a : ℕ) → checkDef s .reply ≡ 0 → place ≡ stateOf (bookOf s) state .place → 0 < place
-      → Sweeping p q s (bookOf s) state set a 0 (place + 3) (state + 1)
+      → Sweeping p q s (bookOf s) state set a 0 (place + stateSize) (state + 1)
   sweep-start s state place set a z e h =
-      subst (λ (n : ℕ). Sweeping p q s (bookOf s) state set a 0 (n + 3) (state + 1)) (sym e) (go (stateOf (bookOf s) state) (placed s state place z e h))
+      subst (λ (n : ℕ). Sweeping p q s (bookOf s) state set a 0 (n + stateSize) (state + 1)) (sym e) (go (stateOf (bookOf s) state) (placed s state place z e h))
     where
-      go : (st : State) → Found s (bookOf s) state st → Sweeping p q s (bookOf s) state set a 0 (st .place + 3) (state + 1)
+      go : (st : State) → Found s (bookOf s) state st → Sweeping p q s (bookOf s) state set a 0 (st .place + stateSize) (state + 1)
       go st f =
           let b = f .book in
           let k = f .kind in
@@ -265,18 +280,18 @@ module _ (p q : ℕ) where
     sweep-passed = walk-passed s at (i .book) B (i .walk)
 
     -- the records are whole, and their states are in a set's reach
-    pub sweep-ends : byte s at ≡ 3 → ArcPassed (i .book) (arcAt s at)
+    pub sweep-ends : byte s at ≡ arcKind → ArcPassed (i .book) (arcAt s at)
     sweep-ends k = arc-stands s at (i .book) B (i .walk) k
 
-    pub sweep-arc : byte s at ≡ 3 → (at + 5 ≤ length s) × ((byte s (at + 1) < mostStates) × (byte s (at + 4) < mostStates))
+    pub sweep-arc : byte s at ≡ arcKind → (at + arcSize ≤ length s) × ((byte s (at + fromAt) < mostStates) × (byte s (at + toAt) < mostStates))
     sweep-arc k =
         let f = sweep-ends k in
         (omega (arith, sweep-passed .whole, size-arc k), (omega (arith, f .from .1, i .walk .sound .states), omega (arith, f .to .1, i .walk .sound .states)))
 
-    pub sweep-state : byte s at ≡ 2 → (at + 3 ≤ length s) × (next ≤ mostStates)
+    pub sweep-state : byte s at ≡ stateKind → (at + stateSize ≤ length s) × (next ≤ mostStates)
     sweep-state k = (omega (arith, sweep-passed .whole, size-state k), omega (arith, i .count, i .walk .sound .states))
 
-    pub sweep-turn-arc : (r : ℕ) → byte s at ≡ 3 → r ≡ hopFold (turned p q (arcAt s at)) set a → Sweeping p q s B state set a (bitOr out r) (at + 5) next
+    pub sweep-turn-arc : (r : ℕ) → byte s at ≡ arcKind → r ≡ hopFold (turned p q (arcAt s at)) set a → Sweeping p q s B state set a (bitOr out r) (at + arcSize) next
     sweep-turn-arc r k e =
         let b = i .book in
         let x = turned p q (arcAt s at) in
@@ -294,7 +309,7 @@ module _ (p q : ℕ) where
               (hop-within x (2 ^ t) set a (one-within set t m)));
         }
 
-    pub sweep-turn-state : byte s at ≡ 2 → Sweeping p q s B state set a out (at + 3) (next + 1)
+    pub sweep-turn-state : byte s at ≡ stateKind → Sweeping p q s B state set a out (at + stateSize) (next + 1)
     sweep-turn-state k =
         let b = i .book in
         let same = arcs-same s at b (λ j. absurd (omega arith)) in
@@ -316,7 +331,7 @@ module _ (p q : ℕ) where
           each = λ t l h m. rw (same t h) (i .each t l m);
         }
 
-    pub sweep-end : (byte s at ≡ 1) ⊎ (byte s at ≡ 4) → SweptAll p q (B .arcs) state set a out next
+    pub sweep-end : (byte s at ≡ ruleKind) ⊎ (byte s at ≡ endKind) → SweptAll p q (B .arcs) state set a out next
     sweep-end (inl k) =
         let b = i .book in
         swept (λ t h. stayed s _ _ B t a (walk-more s at b B (i .walk) (λ j. absurd (omega arith))) (rw (first-rule s at b k) (omega (arith, i .count)))

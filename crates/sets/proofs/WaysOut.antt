@@ -11,7 +11,7 @@ use lib.ListN.{length, drop}
 use lib.Seq.{drop-drop}
 use borrow.Author.Tests.{eq-eqb, ne-eqb, lt-ltb, le-ltb}
 use Rattle.book.specs.Reading.{Book, checkDef, bookOf}
-use Rattle.sets.specs.Numbering.{mostSets, pairs, Table, all, pad}
+use Rattle.sets.specs.Numbering.{mostSets, pairs, Table, pad}
 use Rattle.sets.specs.Workspace.{rowBytes, setWords, leftTable, rightTable, AfterBuild, buildLeaves, refusal, unchanged, cleared, filled, numbered, buildDef}
 use Rattle.sets.specs.Tables.{leftCount, rightCount}
 use Rattle.sets.specs.Sides.{sideFirst, sideStep, sideTable, NumberedAt}
@@ -98,8 +98,8 @@ module _ (left right : Table) (R S : List ℕ) (n : ℕ) (R₁ S₁ : List ℕ) 
         in
         (λ i. buildLeaves (answer i) (rows i) (sets i)) ∙ sym (numbered-both left right R S fits (omega (arith, two .numbered .count k)))
 
--- the replies before 13 and 14 pass
-pub record Room (book R S : List ℕ) : Type 0 where
+-- the tests before 13 and 14 pass: the book is accepted, and the workspace is long enough
+pub record Buildable (book R S : List ℕ) : Type 0 where
   pub accepted : checkDef book .reply ≡ 0
   pub rows : rowBytes ≤ length R
   pub sets : setWords ≤ length S
@@ -108,21 +108,21 @@ pub record Room (book R S : List ℕ) : Type 0 where
 pub data Way (book R S : List ℕ) (x : AfterBuild) : Type 0 where
   refused : (checkDef book .reply ≡ 0 → ⊥) → x ≡ unchanged (checkDef book .reply) (checkDef book .place) R S → Way book R S x
   short : checkDef book .reply ≡ 0 → (length R < rowBytes) ⊎ (length S < setWords) → x ≡ unchanged 11 0 R S → Way book R S x
-  many-left : Room book R S → mostSets < leftCount book → x ≡ cleared 13 R S → Way book R S x
-  many-right : Room book R S → leftCount book ≤ mostSets → mostSets < rightCount book → x ≡ cleared 14 R S → Way book R S x
-  built : Room book R S → leftCount book ≤ mostSets → rightCount book ≤ mostSets → x ≡ filled (leftTable (bookOf book)) (rightTable (bookOf book)) R S → Way book R S x
+  many-left : Buildable book R S → mostSets < leftCount book → x ≡ cleared 13 R S → Way book R S x
+  many-right : Buildable book R S → leftCount book ≤ mostSets → mostSets < rightCount book → x ≡ cleared 14 R S → Way book R S x
+  built : Buildable book R S → leftCount book ≤ mostSets → rightCount book ≤ mostSets → x ≡ filled (leftTable (bookOf book)) (rightTable (bookOf book)) R S → Way book R S x
 
 module _ (book R S : List ℕ) where
-  room-way : (o : Room book R S) → Dec (mostSets < leftCount book) → Dec (mostSets < rightCount book) → Way book R S (buildDef book R S)
+  buildable-way : (o : Buildable book R S) → Dec (mostSets < leftCount book) → Dec (mostSets < rightCount book) → Way book R S (buildDef book R S)
   unfolding leftCount rightCount
-  room-way o (yes h) d = many-left o h (sym (way-on book R S (o .accepted) (o .rows) (o .sets)) ∙ numbered-left _ _ R S h)
-  room-way o (no h) (yes g) = many-right o (omega arith) g (sym (way-on book R S (o .accepted) (o .rows) (o .sets)) ∙ numbered-right _ _ R S (omega arith) g)
-  room-way o (no h) (no g) = built o (omega arith) (omega arith) (sym (way-on book R S (o .accepted) (o .rows) (o .sets)) ∙ numbered-both _ _ R S (omega arith) (omega arith))
+  buildable-way o (yes h) d = many-left o h (sym (way-on book R S (o .accepted) (o .rows) (o .sets)) ∙ numbered-left _ _ R S h)
+  buildable-way o (no h) (yes g) = many-right o (omega arith) g (sym (way-on book R S (o .accepted) (o .rows) (o .sets)) ∙ numbered-right _ _ R S (omega arith) g)
+  buildable-way o (no h) (no g) = built o (omega arith) (omega arith) (sym (way-on book R S (o .accepted) (o .rows) (o .sets)) ∙ numbered-both _ _ R S (omega arith) (omega arith))
 
   checked-way : checkDef book .reply ≡ 0 → Dec (length R < rowBytes) → Dec (length S < setWords) → Way book R S (buildDef book R S)
   checked-way z (yes h) d = short z (inl h) (sym (way-rows book R S z _ h refl))
   checked-way z (no h) (yes g) = short z (inr g) (sym (way-sets book R S z _ g refl))
-  checked-way z (no h) (no g) = room-way (record { accepted = z; rows = omega arith; sets = omega arith }) (decLt _ _) (decLt _ _)
+  checked-way z (no h) (no g) = buildable-way (record { accepted = z; rows = omega arith; sets = omega arith }) (decLt _ _) (decLt _ _)
 
   pub way : Way book R S (buildDef book R S)
   way = by (ℕ-discrete (checkDef book .reply) 0)

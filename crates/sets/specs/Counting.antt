@@ -2,7 +2,7 @@
 -- left sets, from its end for the right ones.
 use Prim.Native.Nat.{ℕ, _+_, _*_, _<_}
 use mathlib.Core.Path.{_≡_}
-use mathlib.Core.List.{List, [], _∷_}
+use mathlib.Core.List.{List}
 use lib.ListN.{length, getD}
 use Rattle.book.specs.Format.{symbolCount}
 use Rattle.book.specs.Reading.{Book}

@@ -1,7 +1,7 @@
 -- Document 01, "The two automata": the sets, each given by the test that its states pass.
 use Prim.Native.Nat.{ℕ}
 use mathlib.Core.List.{List, [], _∷_}
-use mathlib.Core.Bool.{Bool, true, false, _&&_, _||_}
+use mathlib.Core.Bool.{Bool, false, _&&_, _||_}
 use lib.Dec.{eqb}
 use lib.ListN.{length, take, drop}
 use Rattle.book.specs.Format.{leftPart, focusPart, rightPart}

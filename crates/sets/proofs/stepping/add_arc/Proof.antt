@@ -1,6 +1,7 @@
 -- Where the set holds the arc's source, its bit is spread over its symbols; else nothing is added.
 use Rattle.book.proofs.Bits.{worth}
-use Rattle.sets.proofs.Rows.{held, not-held, add-held, add-free}
+use Rattle.sets.proofs.Sweep.{held, not-held}
+use Rattle.sets.proofs.Rows.{add-held, add-free}
 use borrow.Author.Needs.{needs}
 use Rattle.sets.proofs.stepping.add_arc.Statement.{statement}
 use Rattle.sets.proofs.stepping.add_arc.Tie as tie

@@ -16,60 +16,49 @@ Inv-loop s places source target set row₀ left₀ done₀ row left done = Stepp
 abbrev μ-loop : tie.MeasureT-loop
 μ-loop s places source target set row₀ left₀ done₀ row left done = left
 
--- src/stepping.rt:207:5
 loop-holds : tie.Need-loop-holds Inv-loop μ-loop
 loop-holds c =
     step-row-start _ _ _ _ (search needs)
 
--- src/stepping.rt:208:21
 cast-state : tie.Need-cast-state Inv-loop μ-loop
 cast-state c =
     let l = c .before .loop in omega (arith, lowest 64 (l .left) (omega arith) (row-small _ _ _ _ _ _ _ (l .inv)) .below)
 
--- src/stepping.rt:209:24
 sub-left : tie.Need-sub-left Inv-loop μ-loop
 sub-left c =
     omega arith
 
--- src/stepping.rt:211:25
 mul-place : tie.Need-mul-place Inv-loop μ-loop
 mul-place c =
     let l = c .before .before .loop in omega (arith, lowest 64 (l .left) (omega arith) (row-small _ _ _ _ _ _ _ (l .inv)) .below)
 
--- src/stepping.rt:211:25
 element-copy-out-place : tie.Need-element-copy-out-place Inv-loop μ-loop
 element-copy-out-place c =
     let l = c .before .before .loop in omega (arith, lowest 64 (l .left) (omega arith) (row-small _ _ _ _ _ _ _ (l .inv)) .below)
 
--- src/stepping.rt:211:25
 cast-place : tie.Need-cast-place Inv-loop μ-loop
 cast-place c =
     let t = trailingZeros 64 (c .before .before .before .loop .left) in
     omega (arith, placed-fits _ t _ (c .before .before .before .before .before .pre .0) (c .before .before .before .before .before .pre .1 .0 t))
 
--- src/stepping.rt:213:17
 sweep-row-requires : tie.Need-sweep-row-requires Inv-loop μ-loop
 sweep-row-requires c κs =
     let a = c .before .before .before .before .before .before .before in
     (a .pre .0, (a .pre .1 .0 _, (omega (arith, c .before .if2 .taken), (a .pre .1 .1, c .before .before .before .before .before .loop .inv .long))))
 
--- src/stepping.rt:207:5
 loop-less : tie.Need-loop-less Inv-loop μ-loop
 loop-less c =
     without-less (c .before .before .before .before .before .before .loop .left) (omega arith)
 
--- src/stepping.rt:207:5
 loop-again : tie.Need-loop-again Inv-loop μ-loop
 loop-again c =
     let l = c .before .before .before .before .before .before .loop in
     row-turn-swept _ _ _ _ (l .left) (l .done) _ (l .inv) (omega arith) _ _ (c .sweep-row .ensures)
 
--- src/stepping.rt:207:5
 loop-less-2 : tie.Need-loop-less-2 Inv-loop μ-loop
 loop-less-2 c =
     without-less (c .before .before .before .before .loop .left) (omega arith)
 
--- src/stepping.rt:207:5
 loop-again-2 : tie.Need-loop-again-2 Inv-loop μ-loop
 loop-again-2 c =
     let l = c .before .before .before .before .loop in
@@ -77,18 +66,15 @@ loop-again-2 c =
     row-turn-none _ _ _ _ (l .left) (l .done) _ (l .inv) (omega arith)
     (λ a. none-placed _ _ _ (trailingZeros 64 (l .left)) _ a (p .0) (p .1 .0 _) (c .if2 .left))
 
--- src/stepping.rt:207:5
 loop-less-3 : tie.Need-loop-less-3 Inv-loop μ-loop
 loop-less-3 c =
     without-less (c .before .before .loop .left) (omega arith)
 
--- src/stepping.rt:207:5
 loop-again-3 : tie.Need-loop-again-3 Inv-loop μ-loop
 loop-again-3 c =
     let l = c .before .before .loop in
     row-turn-done _ _ _ _ (l .left) (l .done) _ (l .inv) (omega arith) (c .if1 .left)
 
--- src/stepping.rt:192:1
 returns : tie.Need-returns Inv-loop μ-loop
 returns c =
     let l = c .before .loop in

@@ -16,84 +16,69 @@ Inv-loop s place state source target set row₀ at₀ next₀ row at next = Swee
 abbrev μ-loop : tie.MeasureT-loop
 μ-loop s place state source target set row₀ at₀ next₀ row at next = length s - at
 
--- src/stepping.rt:172:18
 add-at : tie.Need-add-at Inv-loop μ-loop
 add-at c =
     let i = sweep-start fromAt toAt _ _ _ 0 0 (c .before .pre .0) (c .before .pre .1 .0) (c .before .pre .1 .1 .0) in
     omega (arith, place-fits _ _ _ _ (i .walk))
 
--- src/stepping.rt:173:20
 add-next : tie.Need-add-next Inv-loop μ-loop
 add-next c =
     let i = sweep-start fromAt toAt _ _ _ 0 0 (c .before .pre .0) (c .before .pre .1 .0) (c .before .pre .1 .1 .0) in
     omega (arith, i .count, i .walk .sound .states)
 
--- src/stepping.rt:174:5
 loop-holds : tie.Need-loop-holds Inv-loop μ-loop
 loop-holds c =
     sweep-row-start _ _ _ _ _ _ _ (c .before .pre .0) (c .before .pre .1 .0) (c .before .pre .1 .1 .0) (c .before .pre .1 .1 .1 .1)
 
--- src/stepping.rt:175:20
 shared-slice-read-kind : tie.Need-shared-slice-read-kind Inv-loop μ-loop
 shared-slice-read-kind c =
     sweep-passed _ _ _ _ _ _ _ _ _ _ (on-zero _ _ _ _ _ _ _ _ _ _ (c .before .loop .inv)) .inside
 
--- src/stepping.rt:178:17
 add-arc-requires : tie.Need-add-arc-requires Inv-loop μ-loop
 add-arc-requires c κs =
     let i = c .before .before .before .loop .inv in
     let e = c .before .before .before .before .before .pre .1 .1 .1 .0 in
     (row-stands _ _ _ _ _ _ _ _ _ _ i (e .0) (e .1) (c .before .match .keys1), i .added .long)
 
--- src/stepping.rt:179:17
 add-at-2 : tie.Need-add-at-2 Inv-loop μ-loop
 add-at-2 c =
     let e = c .before .before .before .before .before .before .pre .1 .1 .1 .0 in
     omega (arith, row-stands _ _ _ _ _ _ _ _ _ _ (c .before .before .before .before .loop .inv) (e .0) (e .1) (c .before .before .match .keys1) .whole)
 
--- src/stepping.rt:174:5
 loop-less : tie.Need-loop-less Inv-loop μ-loop
 loop-less c =
     let e = c .before .before .before .before .before .before .pre .1 .1 .1 .0 in
     omega (arith, row-stands _ _ _ _ _ _ _ _ _ _ (c .before .before .before .before .loop .inv) (e .0) (e .1) (c .before .before .match .keys1) .whole)
 
--- src/stepping.rt:174:5
 loop-again : tie.Need-loop-again Inv-loop μ-loop
 loop-again c =
     let e = c .before .before .before .before .before .before .pre .1 .1 .1 .0 in
     sweep-row-arc _ _ _ _ _ _ _ _ _ _ (c .before .before .before .before .loop .inv) _ (e .0) (e .1) (c .before .before .match .keys1) (c .add-arc .ensures)
 
--- src/stepping.rt:182:17
 add-next-2 : tie.Need-add-next-2 Inv-loop μ-loop
 add-next-2 c =
     omega (arith, sweep-state _ _ _ _ _ _ _ _ _ _ (on-zero _ _ _ _ _ _ _ _ _ _ (c .before .before .loop .inv)) (c .match .keys2))
 
--- src/stepping.rt:183:17
 add-at-3 : tie.Need-add-at-3 Inv-loop μ-loop
 add-at-3 c =
     omega (arith, sweep-state _ _ _ _ _ _ _ _ _ _ (on-zero _ _ _ _ _ _ _ _ _ _ (c .before .before .loop .inv)) (c .match .keys2))
 
--- src/stepping.rt:174:5
 loop-less-2 : tie.Need-loop-less-2 Inv-loop μ-loop
 loop-less-2 c =
     omega (arith, sweep-state _ _ _ _ _ _ _ _ _ _ (on-zero _ _ _ _ _ _ _ _ _ _ (c .before .before .loop .inv)) (c .match .keys2))
 
--- src/stepping.rt:174:5
 loop-again-2 : tie.Need-loop-again-2 Inv-loop μ-loop
 loop-again-2 c =
     sweep-row-state _ _ _ _ _ _ _ _ _ _ (c .before .before .loop .inv) (c .match .keys2)
 
--- src/stepping.rt:185:39
 returns : tie.Need-returns Inv-loop μ-loop
 returns c =
     sweep-row-end _ _ _ _ _ _ _ _ _ _ (c .before .before .loop .inv) (c .match .keys3)
 
--- src/stepping.rt:186:28
 returns-2 : tie.Need-returns-2 Inv-loop μ-loop
 returns-2 c =
     sweep-row-none _ _ _ _ _ _ _ _ _ _ (c .before .before .loop .inv) (no-kind _ (c .match .keys4))
 
--- src/stepping.rt:186:28
 returns-3 : tie.Need-returns-3 Inv-loop μ-loop
 returns-3 c =
     let r = c .match .rest .0 in
