@@ -1,1 +1,2 @@
+-- That contracts determine results.
 pub mod One

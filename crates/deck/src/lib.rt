@@ -6,38 +6,43 @@ ghost use Rattle.rewriter.specs.Replies.{rewriteLeaves, rewriteDef, accountLeav
 ghost use Rattle.rewriter.specs.Show.{boundsOf};
 ghost use Rattle.deck.specs.Plain.{plainChecked, plainBuilt, plainRewritten, plainAccounted, plainBounds};
 
+// CHECK's answer.
 #[repr(C)]
 pub struct CChecked {
-    pub reply: u8,
-    pub place: usize,
-    pub rules: usize,
+    pub reply: u8, // 0, or 1 to 8: include/qafrendi.h names them
+    pub place: usize, // the offset in the book at which it was refused, 0 with reply 0
+    pub rules: usize, // the counts of an accepted book, 0 with every other reply
     pub states: usize,
     pub arcs: usize,
 }
 
+// BUILD's answer.
 #[repr(C)]
 pub struct CBuilt {
-    pub reply: u8,
-    pub place: usize,
-    pub left: usize,
+    pub reply: u8, // 0, CHECK's 1 to 8, or 11, 13, 14
+    pub place: usize, // the place of CHECK's refusal, 0 with every other reply
+    pub left: usize, // the counts of left and of right sets, at most 256 each; 0 with every reply but 0
     pub right: usize,
 }
 
+// REWRITE's answer.
 #[repr(C)]
 pub struct CRewritten {
-    pub reply: u8,
-    pub place: usize,
-    pub length: usize,
-    pub taken: usize,
+    pub reply: u8, // 0, BUILD's replies, or 9, 10, 12, 15 of the tape and its buffers
+    pub place: usize, // where the book or the tape was refused, with 15 the symbols that the output needs; 0 with every other reply
+    pub length: usize, // how many symbols, and as many origins, stand in front of the two buffers; 0 with every reply but 0
+    pub taken: usize, // how many stretches were rewritten
 }
 
+// ACCOUNT's answer.
 #[repr(C)]
 pub struct CAccounted {
-    pub reply: u8,
-    pub place: usize,
-    pub candidates: usize,
+    pub reply: u8, // as REWRITE's
+    pub place: usize, // as REWRITE's, with 15 the words that the account needs
+    pub candidates: usize, // how many lines stand in front of the buffer; 0 with every reply but 0
 }
 
+// SHOW's answer: the part of the tape from `start` up to and not including `end`; both 0 where the line shows none.
 #[repr(C)]
 pub struct CStretch {
     pub start: usize,

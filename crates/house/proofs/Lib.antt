@@ -1,1 +1,2 @@
+-- That the contract determines its result.
 pub mod One

@@ -3,7 +3,9 @@ ghost use mathlib.Core.Path.{_≡_};
 ghost use Rattle.book.specs.House.{house};
 ghost use Rattle.book.specs.Reading.{checkDef};
 
-const HOUSE: [u8; 148] = *b"\
+pub const BYTES: usize = 148;
+
+const HOUSE: [u8; BYTES] = *b"\
     \x01\x01\x0a\x00\x00\x00\x00\x00\x00\x00\
     \x02\x00\x01\
     \x02\x00\x02\
@@ -41,7 +43,7 @@ const HOUSE: [u8; 148] = *b"\
     \x04";
 
 // The constant is the house book of the definitions, and CHECK's definition accepts it.
-pub fn house_book() -> [u8; 148]
+pub fn house_book() -> [u8; BYTES]
     ensures { λ r. ⌜ r ≡ house ⌝ }
     ensures { λ r. ⌜ checkDef r .reply ≡ 0 ⌝ }
 {

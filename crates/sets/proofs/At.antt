@@ -1,4 +1,4 @@
--- The table after j pairs as it stands in the slices, and what one turn of the code does to it.
+-- The table after j pairs as it stands in the slices, and what one turn of the code does to it. Assumes nothing.
 use Prim.Native.Nat.{ℕ, _+_, _-_, _*_, _/_, _%_, _≤_, _<_, zero-le}
 use mathlib.Core.Path.{_≡_, refl, sym, ap, ap₂, _∙_, subst}
 use mathlib.Core.List.{List, [], _∷_, _++_}
@@ -196,7 +196,9 @@ module _ (f : ℕ → ℕ → ℕ) (close : ℕ → ℕ) (s : ℕ) where
     in-new x ex S′ n′ e ne eS en =
         rw (eS, en)
         (record {
-          at = at-next (set S n x) (n + 1) (new-set f s (symbolCount * k + a) R S n (w .at) k a refl ha (w .more) x m (ex ∙ w .here a ha) (em ∙ ap (idx (take n S)) (sym ex)) e room);
+          at =
+              at-next (set S n x) (n + 1)
+              (new-set f s (symbolCount * k + a) R S n (w .at) k a refl ha (w .more) x m (ex ∙ w .here a ha) (em ∙ ap (idx (take n S)) (sym ex)) e room);
           more = omega (arith, w .more);
           below = omega arith;
           here = λ i h. w .here i h ∙ ap (λ (z : ℕ). f z i) (sym (getD-set-other S n k x 0 (omega (arith, w .more))));

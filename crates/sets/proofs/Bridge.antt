@@ -43,9 +43,11 @@ eqb-in {m} {n} e = subst (λ (x : ℕ). T (eqb m x)) e (eqb-refl m)
 pub book-stays : {b : Book} → Sound b → Stays (machine b)
 book-stays {b} h = record {
   same-rule = λ {p} {a} {q} z.
-      subst (λ (x : ℕ). stateOf b x .rule ≡ stateOf b q .rule) (opens-from (z .arc) p a (z .open-to)) (arc-fits h (z .listed) .rule ∙ ap (λ (x : ℕ). stateOf b x .rule) (z .to));
+      subst (λ (x : ℕ). stateOf b x .rule ≡ stateOf b q .rule) (opens-from (z .arc) p a (z .open-to))
+      (arc-fits h (z .listed) .rule ∙ ap (λ (x : ℕ). stateOf b x .rule) (z .to));
   same-part = λ {p} {a} {q} z.
-      subst (λ (x : ℕ). stateOf b x .part ≡ stateOf b q .part) (opens-from (z .arc) p a (z .open-to)) (arc-fits h (z .listed) .part ∙ ap (λ (x : ℕ). stateOf b x .part) (z .to));
+      subst (λ (x : ℕ). stateOf b x .part ≡ stateOf b q .part) (opens-from (z .arc) p a (z .open-to))
+      (arc-fits h (z .listed) .part ∙ ap (λ (x : ℕ). stateOf b x .part) (z .to));
 }
 
 module _ (b : Book) where
@@ -126,7 +128,9 @@ module _ (b : Book) where
 
   -- some state passes two tests
   pub some-out : (f g : ℕ → Bool) → T (someState b (λ (s : ℕ). f s && g s)) → (s : ℕ) × T (f s) × T (g s)
-  some-out f g t = let z = any-out (λ (s : ℕ). f s && g s) (upFrom 0 (length (b .states))) t in (z .0, and-left (f (z .0)) (g (z .0)) (z .2), and-right (f (z .0)) (g (z .0)) (z .2))
+  some-out f g t =
+      let z = any-out (λ (s : ℕ). f s && g s) (upFrom 0 (length (b .states))) t in
+      (z .0, and-left (f (z .0)) (g (z .0)) (z .2), and-right (f (z .0)) (g (z .0)) (z .2))
 
   pub some-in : (f g : ℕ → Bool) (s : ℕ) → s < length (b .states) → T (f s) → T (g s) → T (someState b (λ (s : ℕ). f s && g s))
   some-in f g s h t u = any-in (λ (s : ℕ). f s && g s) (up-in 0 (length (b .states)) s (omega arith) (omega arith)) (and-both (f s) (g s) t u)
@@ -140,7 +144,13 @@ module _ (b : Book) where
   accepts-out r part w t =
       let y = some-out (isStart b r part) (finishes r part w) t in
       let z = some-out (isAccept b r part) (leads (b .arcs) (y .0) w) (y .2) in
-      record { from = y .0; to = z .0; start = start-out r part (y .0) (y .1); accept = accept-out r part (z .0) (z .1); run = leads-out w (y .0) (z .0) (z .2) }
+      record {
+        from = y .0;
+        to = z .0;
+        start = start-out r part (y .0) (y .1);
+        accept = accept-out r part (z .0) (z .1);
+        run = leads-out w (y .0) (z .0) (z .2);
+      }
 
   pub accepts-in : {r part : ℕ} {w : List ℕ} → Accepts (machine b) r part w → T (accepts b r part w)
   unfolding accepts
@@ -162,7 +172,8 @@ module _ (b : Book) where
   )
 
   -- the three languages of a rule
-  pub applies-iff : (r : ℕ) (l f w : List ℕ) → T (accepts b r focusPart f && someEnd (accepts b r leftPart) l && someFront (accepts b r rightPart) w) ↔ Applies (machine b) l f w r
+  pub applies-iff : (r : ℕ) (l f w : List ℕ)
+      → T (accepts b r focusPart f && someEnd (accepts b r leftPart) l && someFront (accepts b r rightPart) w) ↔ Applies (machine b) l f w r
   applies-iff r l f w = (
     λ t. record {
       left = left-iff r l .0 (and-right F L (and-left (F && L) W t));

@@ -1,5 +1,5 @@
--- What BUILD's reply and counts say of the book: "The count for a side is the number of different sets over all tapes of any length";
--- 13 and 14 are given exactly when there are more than 256.
+-- What BUILD's reply and counts say of the book: "The count for a side is the number of different sets over all tapes of any length"; 13 and
+-- 14 are given exactly when there are more than 256. Assumes nothing.
 use Prim.Native.Nat.{ℕ, _≤_, _<_}
 use mathlib.Core.Path.{_≡_, sym, ap, _∙_}
 use mathlib.Core.Logic.{_↔_, _⊎_, inl, inr}
@@ -38,7 +38,8 @@ reply x = x .answer .reply
 
 -- the counts of an accepted book
 module _ (book R S : List ℕ) where
-  counts : (x : AfterBuild) → Way book R S x → reply x ≡ 0 → (x .answer .left ≡ leftCount book) × (x .answer .right ≡ rightCount book) × (leftCount book ≤ mostSets) × (rightCount book ≤ mostSets)
+  counts : (x : AfterBuild) → Way book R S x → reply x ≡ 0
+      → (x .answer .left ≡ leftCount book) × (x .answer .right ≡ rightCount book) × (leftCount book ≤ mostSets) × (rightCount book ≤ mostSets)
   unfolding leftCount rightCount
   counts x (refused h e) z = absurd (h (sym (ap reply e) ∙ z))
   counts x (short h s e) z = absurd (let q = ap reply e in omega arith)

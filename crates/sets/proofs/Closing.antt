@@ -1,4 +1,4 @@
--- The sets that the code gives are those of the definitions: state by state, for every number.
+-- The sets that the code gives are those of the definitions: state by state, for every number. Assumes nothing.
 use Prim.Native.Nat.{ℕ, zero, suc, _≤_, _<_}
 use mathlib.Core.Path.{_≡_, refl, ap, ap₂, sym, _∙_}
 use mathlib.Core.Logic.{_≢_}
@@ -59,12 +59,14 @@ eqb-sym x y = go (ℕ-discrete x y)
     go (no f) = ne-eqb _ _ f ∙ sym (ne-eqb _ _ (λ e. f (sym e)))
 
 step-into : (arcs : List Arc) (X c s : ℕ)
-    → any (λ a. leaves X c a && eqb s (a .to)) (map (turned fromAt toAt) arcs) ≡ any (λ (x : Arc). member X (x .from) && (opens x (x .from) c && eqb (x .to) s)) arcs
+    → any (λ a. leaves X c a && eqb s (a .to)) (map (turned fromAt toAt) arcs)
+    ≡ any (λ (x : Arc). member X (x .from) && (opens x (x .from) c && eqb (x .to) s)) arcs
 unfolding turned
 step-into [] X c s = refl
 step-into (a ∷ arcs) X c s =
     ap₂ (λ (p q : Bool). p || q)
-    (into-one (member X (a .from)) (leb (a .low) c) (leb c (a .high)) (eqb s (a .to)) (eqb (a .to) s) (eqb (a .from) (a .from)) (eqb-sym s (a .to)) (eq-eqb (a .from) (a .from) refl))
+    (into-one (member X (a .from)) (leb (a .low) c) (leb c (a .high)) (eqb s (a .to)) (eqb (a .to) s) (eqb (a .from) (a .from))
+    (eqb-sym s (a .to)) (eq-eqb (a .from) (a .from) refl))
     (step-into arcs X c s)
 
 step-back : (arcs : List Arc) (X c s : ℕ)
@@ -109,7 +111,8 @@ unfolding leftNext
 left-next b X c o =
     ext _ _ (λ s. member-or (allMask leftPart startFlag (b .states)) (stepArcs fromAt toAt (b .arcs) X c) s
     ∙ ap₂ (λ (p q : Bool). p || q) (member-all b o leftPart startFlag s) (member-into b X c s)
-    ∙ sym (member-of b o (λ k. starts b leftPart k || intoBy b X c k) (λ k h. or-false (starts b leftPart k) (intoBy b X c k) (none-of b leftPart startFlag k h) (into-past b X c k o h)) s))
+    ∙ sym (member-of b o (λ k. starts b leftPart k || intoBy b X c k)
+    (λ k h. or-false (starts b leftPart k) (intoBy b X c k) (none-of b leftPart startFlag k h) (into-past b X c k o h)) s))
 
 -- ---- the closure
 
@@ -156,9 +159,11 @@ unfolding closed isStart
 close-is b o f past x is S A ms ma =
     ext _ _ (λ s. member-or x (gather mostRules x S A) s
     ∙ ap₂ (λ (p q : Bool). p || q) (is s)
-    (member-gather b o rightPart startFlag focusPart acceptFlag x S A ms ma s ∙ ap (λ (g : ℕ → Bool). ends b focusPart s && someState b (λ (p : ℕ). isStart b (stateOf b s .rule) rightPart p && g p)) (λ i p. is p i))
+    (member-gather b o rightPart startFlag focusPart acceptFlag x S A ms ma s
+    ∙ ap (λ (g : ℕ → Bool). ends b focusPart s && someState b (λ (p : ℕ). isStart b (stateOf b s .rule) rightPart p && g p)) (λ i p. is p i))
     ∙ sym (member-of b o (λ k. near b f k || (ends b focusPart k && K′ k))
-    (λ k h. or-false (near b f k) (ends b focusPart k && K′ k) (or-false (f k) (ends b rightPart k) (past k h) (none-of b rightPart acceptFlag k h)) (ap (λ (p : Bool). p && K′ k) (none-of b focusPart acceptFlag k h))) s))
+    (λ k h. or-false (near b f k) (ends b focusPart k && K′ k) (or-false (f k) (ends b rightPart k) (past k h) (none-of b rightPart acceptFlag k h))
+    (ap (λ (p : Bool). p && K′ k) (none-of b focusPart acceptFlag k h))) s))
   where
     K′ : ℕ → Bool
     K′ k = someState b (λ (p : ℕ). isStart b (stateOf b k .rule) rightPart p && near b f p)
@@ -172,7 +177,8 @@ right-prev b X c x S A o e ms ma =
     ∙ ap₂ (λ (p q : Bool). p || q) (member-all b o rightPart acceptFlag s) (member-back b X c s) ∙ B.or-comm (ends b rightPart s) (backBy b X c s))
     S A ms ma
 
-pub right-last : (b : Book) (x : ℕ) (S A : List ℕ) → Sound b → x ≡ allMask rightPart acceptFlag (b .states) → EachMask rightPart startFlag (b .states) S → EachMask focusPart acceptFlag (b .states) A → bitOr x (gather mostRules x S A) ≡ rightLast b
+pub right-last : (b : Book) (x : ℕ) (S A : List ℕ) → Sound b → x ≡ allMask rightPart acceptFlag (b .states)
+    → EachMask rightPart startFlag (b .states) S → EachMask focusPart acceptFlag (b .states) A → bitOr x (gather mostRules x S A) ≡ rightLast b
 unfolding rightLast
 right-last b x S A o e ms ma = close-is b o (λ s. false) (λ s h. refl) x (λ s. ap (λ (y : ℕ). member y s) e ∙ member-all b o rightPart acceptFlag s) S A ms ma
 

@@ -1,5 +1,5 @@
 -- The laws of the numbering over any step: its entries, walking the rows along a tape from either end, no set twice, and exactly the
--- different sets over all tapes.
+-- different sets over all tapes. Assumes nothing.
 use Prim.Native.Nat.{ℕ, zero, suc, _+_, _-_, _*_, _/_, _%_, _≤_, _<_, min, zero-le, suc-le-suc}
 use mathlib.Core.Path.{_≡_, refl, sym, ap, ap₂, _∙_, subst}
 use mathlib.Core.Bool.{true, false}
@@ -54,7 +54,8 @@ pigeon [] S d h = zero-le
 pigeon (x ∷ L) S d h =
     let hx : idx S x < length S = h 0 (suc-le-suc zero-le) in
     let p = pigeon L (del S x) (record { once = λ i j hi hj e. omega (arith, d .once (suc i) (suc j) (suc-le-suc hi) (suc-le-suc hj) e) })
-    (λ i hi. in-del S x (getD L i 0) (λ e. let z = d .once (suc i) 0 (suc-le-suc hi) (suc-le-suc zero-le) e in let w : ⊥ = omega arith in w) (h (suc i) (suc-le-suc hi))) in
+    (λ i hi. in-del S x (getD L i 0)
+    (λ e. let z = d .once (suc i) 0 (suc-le-suc hi) (suc-le-suc zero-le) e in let w : ⊥ = omega arith in w) (h (suc i) (suc-le-suc hi))) in
     omega (arith, length-del S x hx)
 
 -- the set over a tape by the step f: the first set for the empty tape, and one step with each symbol, from either end
@@ -84,7 +85,11 @@ module _ (f : ℕ → ℕ → ℕ) where
   front s =
       record {
         empty = record { word = []; tape = tt; ends = refl };
-        more = λ x a r h. record { word = r .word ++ (a ∷ []); tape = tape-snoc (r .word) a (r .tape) h; ends = after-snoc s (r .word) a ∙ ap (λ (y : ℕ). f y a) (r .ends) };
+        more = λ x a r h. record {
+          word = r .word ++ (a ∷ []);
+          tape = tape-snoc (r .word) a (r .tape) h;
+          ends = after-snoc s (r .word) a ∙ ap (λ (y : ℕ). f y a) (r .ends);
+        };
         only = λ P p k w t. after-only P k s p w t;
       }
 
@@ -246,7 +251,8 @@ module _ (f : ℕ → ℕ → ℕ) (s : ℕ) where
         let h : symbolCount * k + a < length ((all f s) .rows) = omega (arith, law-width) in
         omega (arith, good-all .known (symbolCount * k + a) h, good-all .entered (symbolCount * k + a) h)
 
-    pub law-entry : (k a : ℕ) → k < length ((all f s) .sets) → a < symbolCount → getD ((all f s) .sets) (entry ((all f s) .rows) k a) 0 ≡ f (getD ((all f s) .sets) k 0) a
+    pub law-entry : (k a : ℕ) → k < length ((all f s) .sets) → a < symbolCount
+        → getD ((all f s) .sets) (entry ((all f s) .rows) k a) 0 ≡ f (getD ((all f s) .sets) k 0) a
     law-entry k a hk ha =
         let h : symbolCount * k + a < length ((all f s) .rows) = omega (arith, law-width) in
         ap (λ (i : ℕ). getD ((all f s) .sets) i 0) (good-all .entered (symbolCount * k + a) h)
@@ -290,7 +296,11 @@ module _ (f : ℕ → ℕ → ℕ) (s : ℕ) (over : List ℕ → ℕ) (o : Step
     law-every =
         o .only (λ (x : ℕ). (i : ℕ) × (i < length ((all f s) .sets)) × (getD ((all f s) .sets) i 0 ≡ x))
         (0, law-first f s .0, law-first f s .1)
-        (λ x a p h. (entry ((all f s) .rows) (p .0) a, law-below f s fits (p .0) a (p .1) h, law-entry f s fits (p .0) a (p .1) h ∙ ap (λ (y : ℕ). f y a) (p .2)))
+        (λ x a p h. (
+          entry ((all f s) .rows) (p .0) a,
+          law-below f s fits (p .0) a (p .1) h,
+          law-entry f s fits (p .0) a (p .1) h ∙ ap (λ (y : ℕ). f y a) (p .2),
+        ))
 
     pub law-exactly : Exactly over (length ((all f s) .sets))
     law-exactly = record { list = (all f s) .sets; size = refl; distinct = law-distinct f s; reached = law-reached; every = law-every }
@@ -330,7 +340,8 @@ half f s n e g q few he hg =
       some = some;
       first = hg 0 some ∙ law-first f s .1;
       below = below;
-      step = λ k a h l. hg (e k a) (below k a h l) ∙ ap (λ (i : ℕ). getD ((all f s) .sets) i 0) (he k a h l) ∙ law-entry f s fits k a (omega arith) l ∙ ap (λ (x : ℕ). f x a) (sym (hg k h));
+      step = λ k a h l. hg (e k a) (below k a h l) ∙ ap (λ (i : ℕ). getD ((all f s) .sets) i 0) (he k a h l)
+          ∙ law-entry f s fits k a (omega arith) l ∙ ap (λ (x : ℕ). f x a) (sym (hg k h));
       once = λ i j h l p. law-distinct f s .once i j (omega arith) (omega arith) (sym (hg i h) ∙ p ∙ hg j l);
     }
   where

@@ -18,7 +18,8 @@ module _ (c : ℕ) where
   unfolding stepFold hopFold
   member-step [] x t = member-none t
   member-step (a ∷ rest) x t =
-      member-or (cond (leaves x c a) (2 ^ a .to) 0) (stepFold rest x c) t ∙ ap₂ (λ (p q : Bool). p || q) (member-cond (leaves x c a) (a .to) t) (member-step rest x t)
+      member-or (cond (leaves x c a) (2 ^ a .to) 0) (stepFold rest x c) t
+      ∙ ap₂ (λ (p q : Bool). p || q) (member-cond (leaves x c a) (a .to) t) (member-step rest x t)
 
   swap : (p q r s : Bool) → ((p || q) || (r || s)) ≡ ((p || r) || (q || s))
   swap true q r s = refl
@@ -36,18 +37,21 @@ module _ (c : ℕ) where
   split false n r e = refl
 
   any-or : (arcs : List Arc) (x y t : ℕ)
-      → any (λ a. leaves (bitOr x y) c a && eqb t (a .to)) arcs ≡ (any (λ a. leaves x c a && eqb t (a .to)) arcs || any (λ a. leaves y c a && eqb t (a .to)) arcs)
+      → any (λ a. leaves (bitOr x y) c a && eqb t (a .to)) arcs
+      ≡ (any (λ a. leaves x c a && eqb t (a .to)) arcs || any (λ a. leaves y c a && eqb t (a .to)) arcs)
   any-or [] x y t = refl
   any-or (a ∷ rest) x y t =
       ap₂ (λ (p q : Bool). p || q)
       (ap (λ (m : Bool). m && (leb (a .low) c && leb c (a .high)) && eqb t (a .to)) (member-or x y (a .from))
       ∙ split (member x (a .from)) (member y (a .from)) (leb (a .low) c && leb c (a .high)) (eqb t (a .to)))
       (any-or rest x y t)
-      ∙ swap (leaves x c a && eqb t (a .to)) (leaves y c a && eqb t (a .to)) (any (λ a. leaves x c a && eqb t (a .to)) rest) (any (λ a. leaves y c a && eqb t (a .to)) rest)
+      ∙ swap (leaves x c a && eqb t (a .to)) (leaves y c a && eqb t (a .to))
+      (any (λ a. leaves x c a && eqb t (a .to)) rest) (any (λ a. leaves y c a && eqb t (a .to)) rest)
 
   pub step-or : (arcs : List Arc) (x y : ℕ) → stepFold arcs (bitOr x y) c ≡ bitOr (stepFold arcs x c) (stepFold arcs y c)
   step-or arcs x y =
-      ext _ _ (λ t. member-step arcs (bitOr x y) t ∙ any-or arcs x y t ∙ sym (member-or (stepFold arcs x c) (stepFold arcs y c) t ∙ ap₂ (λ (p q : Bool). p || q) (member-step arcs x t) (member-step arcs y t)))
+      ext _ _ (λ t. member-step arcs (bitOr x y) t ∙ any-or arcs x y t
+      ∙ sym (member-or (stepFold arcs x c) (stepFold arcs y c) t ∙ ap₂ (λ (p q : Bool). p || q) (member-step arcs x t) (member-step arcs y t)))
 
   pub step-none : (arcs : List Arc) → stepFold arcs 0 c ≡ 0
   unfolding stepFold hopFold

@@ -1,4 +1,4 @@
--- Laws of idx: the first place of a number in a list, or the list's length.
+-- Laws of idx: the first place of a number in a list, or the list's length. Assumes nothing.
 use Prim.Native.Nat.{ℕ, zero, suc, _+_, _≤_, _<_, zero-le, suc-le-suc}
 use mathlib.Core.Path.{_≡_, refl, sym, ap, _∙_}
 use mathlib.Core.List.{List, [], _∷_, _++_}

@@ -38,10 +38,12 @@ after-snoc : (next : ℕ → ℕ → ℕ) (w : List ℕ) (X a : ℕ) → after n
 after-snoc next [] X a = refl
 after-snoc next (c ∷ w) X a = after-snoc next w (next X c) a
 
-pruned-snoc : (go : ℕ → ℕ → ℕ → ℕ) (right : List ℕ → ℕ) (u : List ℕ) (F a : ℕ) (v : List ℕ) → pruned go right F (u ++ (a ∷ [])) v ≡ go (pruned go right F u (a ∷ v)) a (right v)
+pruned-snoc : (go : ℕ → ℕ → ℕ → ℕ) (right : List ℕ → ℕ) (u : List ℕ) (F a : ℕ) (v : List ℕ)
+    → pruned go right F (u ++ (a ∷ [])) v ≡ go (pruned go right F u (a ∷ v)) a (right v)
 pruned-snoc go right [] F a v = refl
 pruned-snoc go right (c ∷ u) F a v =
-    ap (λ (x : List ℕ). pruned go right (go F c (right x)) (u ++ (a ∷ [])) v) (append-assoc u (a ∷ []) v) ∙ pruned-snoc go right u (go F c (right (u ++ a ∷ v))) a v
+    ap (λ (x : List ℕ). pruned go right (go F c (right x)) (u ++ (a ∷ [])) v) (append-assoc u (a ∷ []) v)
+    ∙ pruned-snoc go right u (go F c (right (u ++ a ∷ v))) a v
 
 module _ (b : Book) (t : List ℕ) where
   pub left-first : leftAt b t 0 ≡ leftFirst b
@@ -90,7 +92,7 @@ pub record LeftState (b : Book) (t : List ℕ) (i s : ℕ) : Type 0 where
 
 -- "the right-part states from which some word beginning at i leads to acceptance"
 pub record RightState (b : Book) (t : List ℕ) (i s : ℕ) : Type 0 where
-  pub right : stateOf b s .part ≡ 2
+  pub right : stateOf b s .part ≡ rightPart
   pub k : ℕ
   pub from : i ≤ k
   pub inside : k ≤ length t
@@ -204,7 +206,9 @@ module _ (b : Book) (h : Sound b) (t : List ℕ) where
         rule = stateOf b s .rule;
         cut = slice-cut t i (z .k) (z .from);
         run = run;
-        accept = subst (λ (r : ℕ). Accept (machine b) r focusPart (z .accept)) (sym (run-rule (book-stays h) run)) (ends-out b focusPart (z .accept) (z .is-accept));
+        accept =
+            subst (λ (r : ℕ). Accept (machine b) r focusPart (z .accept)) (sym (run-rule (book-stays h) run))
+            (ends-out b focusPart (z .accept) (z .is-accept));
         right = right-iff b (stateOf b s .rule) (drop (z .k) t) .0 (z .right);
       }
 
@@ -235,10 +239,12 @@ module _ (b : Book) (h : Sound b) (t : List ℕ) where
   -- ---- the pruned walk from i
 
   module _ (i : ℕ) where
-    first-set : (s : ℕ) → T (member (focusFirst b (leftAt b t i) (rightAt b t i)) s) ↔ (((r : ℕ) × Start (machine b) r focusPart s × LeftHolds (machine b) r (take i t)) × T (member (rightAt b t i) s))
+    first-set : (s : ℕ) → T (member (focusFirst b (leftAt b t i) (rightAt b t i)) s)
+        ↔ (((r : ℕ) × Start (machine b) r focusPart s × LeftHolds (machine b) r (take i t)) × T (member (rightAt b t i) s))
     first-set = focus-first-law b (take i t) (leftAt b t i) (rightAt b t i) (λ r. left-test r i)
 
-    accepting : (r j : ℕ) → i ≤ j → Applies (machine b) (take i t) (slice i j t) (drop j t) r ↔ (((s : ℕ) × Accept (machine b) r focusPart s × T (member (focusAt b t i j) s)) × RightHolds (machine b) r (drop j t))
+    accepting : (r j : ℕ) → i ≤ j → Applies (machine b) (take i t) (slice i j t) (drop j t) r
+        ↔ (((s : ℕ) × Accept (machine b) r focusPart s × T (member (focusAt b t i j) s)) × RightHolds (machine b) r (drop j t))
     unfolding focusAt rightAt
     accepting r j k = Runs.accepting (machine b) ℕ In (book-stays h) (rightLast b) (rightPrev b) (last-law b) (prev-law b h) (focusNext b) (focus-next-law b h)
         (take i t) (focusFirst b (leftAt b t i) (rightAt b t i)) (drop i t) first-set r (slice-cut t i j k)
@@ -253,8 +259,10 @@ module _ (b : Book) (h : Sound b) (t : List ℕ) where
     focus-test j r k = same-test (applies b t i j r) (A && B) (
       λ x. let y = accepting r j k .0 (applies-iff b r (take i t) (slice i j t) (drop j t) .0 x) in
           and-both A B (meets-accept b r focusPart (focusAt b t i j) .1 (y .0)) (meets-start b r rightPart (rightAt b t j) .1 (right-test r j .0 (y .1))),
-      λ x. applies-iff b r (take i t) (slice i j t) (drop j t) .1 (accepting r j k .1
-          (meets-accept b r focusPart (focusAt b t i j) .0 (and-left A B x), right-test r j .1 (meets-start b r rightPart (rightAt b t j) .0 (and-right A B x)))),
+      λ x. applies-iff b r (take i t) (slice i j t) (drop j t) .1 (accepting r j k .1 (
+        meets-accept b r focusPart (focusAt b t i j) .0 (and-left A B x),
+        right-test r j .1 (meets-start b r rightPart (rightAt b t j) .0 (and-right A B x)),
+      )),
     )
       where
         A : Bool
@@ -292,7 +300,8 @@ module _ (b : Book) (h : Sound b) (t : List ℕ) where
           y .rule,
           omega arith,
           omega arith,
-          applies-iff b (y .rule) (take i t) (slice i k t) (drop k t) .1 (subst₂ (λ (f w : List ℕ). Applies (machine b) (take i t) f w (y .rule)) e₁ e₂ (y .applies)),
+          applies-iff b (y .rule) (take i t) (slice i k t) (drop k t) .1
+              (subst₂ (λ (f w : List ℕ). Applies (machine b) (take i t) f w (y .rule)) e₁ e₂ (y .applies)),
         )
 
 -- ---- the tests by masks, and the walk rule by rule and step by step
@@ -301,7 +310,7 @@ module _ (b : Book) (o : Sound b) where
   -- a set meets a rule's accept or start states of a part exactly if it has something in common with their mask
   pub accept-mask : (r part X : ℕ) → meetsAccept b r part X ≡ not (eqb (bitAnd X (ruleMask part acceptFlag (b .states) r)) 0)
   unfolding isAccept ruleMask
-  accept-mask r part X = sym (meets b o (λ s. eqb (stateOf b s .rule) r && isOf part 2 (stateOf b s)) (none-rule b part 2 r) X)
+  accept-mask r part X = sym (meets b o (λ s. eqb (stateOf b s .rule) r && isOf part acceptFlag (stateOf b s)) (none-rule b part acceptFlag r) X)
 
   pub start-mask : (r part X : ℕ) → meetsStart b r part X ≡ not (eqb (bitAnd X (ruleMask part startFlag (b .states) r)) 0)
   unfolding isStart ruleMask
@@ -311,13 +320,13 @@ module _ (b : Book) (o : Sound b) where
   is-false c h = same-test c false (λ t. absurd (h t), λ t. absurd t)
 
   -- a set that holds no accept state of a part meets those of no rule
-  pub accept-none : (r part X : ℕ) → bitAnd X (allMask part 2 (b .states)) ≡ 0 → meetsAccept b r part X ≡ false
+  pub accept-none : (r part X : ℕ) → bitAnd X (allMask part acceptFlag (b .states)) ≡ 0 → meetsAccept b r part X ≡ false
   unfolding allMask isAccept
   accept-none r part X e = is-false (meetsAccept b r part X) (λ t.
       let z = any-up (λ (s : ℕ). isAccept b r part s && member X s) 0 (length (b .states)) .0 t in
       let s = z .0 in
-      let R = eqb (stateOf b s .rule) r in let A = isOf part 2 (stateOf b s) in
-      subst T (none-both b o (λ k. isOf part 2 (stateOf b k)) (none-of b part 2) X e s)
+      let R = eqb (stateOf b s .rule) r in let A = isOf part acceptFlag (stateOf b s) in
+      subst T (none-both b o (λ k. isOf part acceptFlag (stateOf b k)) (none-of b part acceptFlag) X e s)
       (and-both A (member X s) (and-right R A (and-left (R && A) (member X s) (z .3))) (and-right (R && A) (member X s) (z .3))))
 
   module _ (L : ℕ) where
@@ -340,7 +349,8 @@ module _ (b : Book) (o : Sound b) where
             (and-both S (member R s) (and-left S K (and-left (S && K) (member R s) t)) (and-right (S && K) (member R s) t)))
 
     -- what a rule gives: its focus starts, where the left set meets its left accepts
-    pub opened-mask : (r : ℕ) → openedBy b L r ≡ cond (eqb (bitAnd L (ruleMask leftPart acceptFlag (b .states) r)) 0) 0 (ruleMask focusPart startFlag (b .states) r)
+    pub opened-mask : (r : ℕ) → openedBy b L r
+        ≡ cond (eqb (bitAnd L (ruleMask leftPart acceptFlag (b .states) r)) 0) 0 (ruleMask focusPart startFlag (b .states) r)
     unfolding openedBy
     opened-mask r = ext _ _ (λ s.
         member-of b o (λ k. eqb (stateOf b k .rule) r && mayStart b L k) (λ k h. no-start-with (eqb (stateOf b k .rule) r) k h) s

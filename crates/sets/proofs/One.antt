@@ -1,4 +1,4 @@
--- The contracts of the public functions determine what they give and leave; all but BUILD's are called with an accepted book. Assumes nothing.
+-- The contracts of the public functions determine what they give and leave; all but BUILD's have a `requires`. Assumes nothing.
 use mathlib.Core.Path.{refl, sym, _∙_}
 use Rattle.book.specs.Determined.{Determined, Called}
 use Rattle.sets.proofs.build.Kinds as build-kinds
@@ -29,10 +29,12 @@ one-step κs a x y v w p q = (p .1 ∙ sym (q .1), refl)
 pub one-next : Determined 2 next-kinds.ps next-kinds.r (Called 2 next-kinds.ps next-kinds.r next-reads.Pre next-reads.Post)
 one-next κs a x y v w p q = (p .1 ∙ sym (q .1), refl)
 
-pub one-left-entry : Determined 1 left-entry-kinds.ps left-entry-kinds.r (Called 1 left-entry-kinds.ps left-entry-kinds.r left-entry-reads.Pre left-entry-reads.Post)
+pub one-left-entry : Determined 1 left-entry-kinds.ps left-entry-kinds.r
+    (Called 1 left-entry-kinds.ps left-entry-kinds.r left-entry-reads.Pre left-entry-reads.Post)
 one-left-entry κs a x y v w p q = (p .1 ∙ sym (q .1), refl)
 
-pub one-right-entry : Determined 1 right-entry-kinds.ps right-entry-kinds.r (Called 1 right-entry-kinds.ps right-entry-kinds.r right-entry-reads.Pre right-entry-reads.Post)
+pub one-right-entry : Determined 1 right-entry-kinds.ps right-entry-kinds.r
+    (Called 1 right-entry-kinds.ps right-entry-kinds.r right-entry-reads.Pre right-entry-reads.Post)
 one-right-entry κs a x y v w p q = (p .1 ∙ sym (q .1), refl)
 
 pub one-right-set : Determined 2 right-set-kinds.ps right-set-kinds.r (Called 2 right-set-kinds.ps right-set-kinds.r right-set-reads.Pre right-set-reads.Post)

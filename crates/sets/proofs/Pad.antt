@@ -29,4 +29,5 @@ cleared-more d l i w h =
 pub cleared-all : (d l : List ℕ) (i : ℕ) → Cleared d i l → length l ≤ i → l ≡ pad (length d) []
 cleared-all d l i w h =
     let e : i ≡ length d = omega (arith, w) in
-    w .is ∙ ap (λ (k : ℕ). replicate k 0 ++ drop k d) e ∙ ap (λ (t : List ℕ). replicate (length d) 0 ++ t) (drop-length d) ∙ append-nil _ ∙ sym (pad-nil (length d))
+    w .is ∙ ap (λ (k : ℕ). replicate k 0 ++ drop k d) e
+    ∙ ap (λ (t : List ℕ). replicate (length d) 0 ++ t) (drop-length d) ∙ append-nil _ ∙ sym (pad-nil (length d))

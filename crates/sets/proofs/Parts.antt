@@ -1,4 +1,4 @@
--- A part of a list that was lent and is back: the part, and what lies before and after it.
+-- A part of a list that was lent and is back: the part, and what lies before and after it. Assumes nothing.
 use Prim.Native.Nat.{ℕ, _+_, _-_, _≤_}
 use mathlib.Core.Path.{_≡_, sym, ap, _∙_}
 use mathlib.Core.List.{List, _++_}

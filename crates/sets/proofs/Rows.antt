@@ -94,7 +94,8 @@ spread-end low high bit row₀ row i w h =
     }
 
 -- an arc from a state of the set adds its bit on its symbols, another one nothing
-pub add-held : (x : Arc) (set bit : ℕ) (row row′ : List ℕ) → member set (x .from) ≡ true → bit ≡ 2 ^ x .to → Added (between (x .low) (x .high) bit) row row′ → Added (hopFold x set) row row′
+pub add-held : (x : Arc) (set bit : ℕ) (row row′ : List ℕ) → member set (x .from) ≡ true → bit ≡ 2 ^ x .to
+    → Added (between (x .low) (x .high) bit) row row′ → Added (hopFold x set) row row′
 unfolding between hopFold
 add-held x set bit row row′ e f w =
     record {
@@ -209,17 +210,20 @@ module _ (p q : ℕ) where
           }
 
 -- the row of either side
-pub row-right : (back : Bool) (arcs : List Arc) (x : ℕ) (row : List ℕ) → back ≡ true → Stepped (stepArcs toAt fromAt arcs x) row → Stepped (sideArcs back arcs x) row
+pub row-right : (back : Bool) (arcs : List Arc) (x : ℕ) (row : List ℕ) → back ≡ true
+    → Stepped (stepArcs toAt fromAt arcs x) row → Stepped (sideArcs back arcs x) row
 unfolding sideArcs
 row-right back arcs x row e w = rw e (record { long = w .long; each = w .each })
 
-pub row-left : (back : Bool) (arcs : List Arc) (x : ℕ) (row : List ℕ) → back ≡ false → Stepped (stepArcs fromAt toAt arcs x) row → Stepped (sideArcs back arcs x) row
+pub row-left : (back : Bool) (arcs : List Arc) (x : ℕ) (row : List ℕ) → back ≡ false
+    → Stepped (stepArcs fromAt toAt arcs x) row → Stepped (sideArcs back arcs x) row
 unfolding sideArcs
 row-left back arcs x row e w = rw e (record { long = w .long; each = w .each })
 
 -- what becomes of a step on either side
 module _ (leftStarts rightAccepts : ℕ) (rightStarts focusAccepts : List ℕ) (back : Bool) (x : ℕ) where
-  pub close-right : (given : ℕ) → back ≡ true → given ≡ gather mostRules (bitOr rightAccepts x) rightStarts focusAccepts → bitOr (bitOr rightAccepts x) given ≡ closeBy leftStarts rightAccepts rightStarts focusAccepts back x
+  pub close-right : (given : ℕ) → back ≡ true → given ≡ gather mostRules (bitOr rightAccepts x) rightStarts focusAccepts
+      → bitOr (bitOr rightAccepts x) given ≡ closeBy leftStarts rightAccepts rightStarts focusAccepts back x
   unfolding closeBy
   close-right given e f = rw e (ap (bitOr (bitOr rightAccepts x)) f)
 
@@ -228,7 +232,8 @@ module _ (leftStarts rightAccepts : ℕ) (rightStarts focusAccepts : List ℕ) (
   close-left e = rw e
 
 -- it is the side's set: after no symbol, and after one more
-module _ (b : Book) (o : Sound b) (leftStarts rightAccepts : ℕ) (rightStarts focusAccepts : List ℕ) (m : SideMasks b leftStarts rightAccepts rightStarts focusAccepts) where
+module _ (b : Book) (o : Sound b) (leftStarts rightAccepts : ℕ) (rightStarts focusAccepts : List ℕ)
+    (m : SideMasks b leftStarts rightAccepts rightStarts focusAccepts) where
   pub close-first : (back : Bool) → closeBy leftStarts rightAccepts rightStarts focusAccepts back 0 ≡ sideFirst b back
   unfolding closeBy sideFirst
   close-first true =
@@ -238,7 +243,8 @@ module _ (b : Book) (o : Sound b) (leftStarts rightAccepts : ℕ) (rightStarts f
   pub close-step : (back : Bool) (x a : ℕ) → closeBy leftStarts rightAccepts rightStarts focusAccepts back (sideArcs back (b .arcs) x a) ≡ sideStep b back x a
   unfolding closeBy sideArcs sideStep
   close-step true x a =
-      right-prev b x a (bitOr rightAccepts (stepArcs toAt fromAt (b .arcs) x a)) rightStarts focusAccepts o (ap (λ (y : ℕ). bitOr y (stepArcs toAt fromAt (b .arcs) x a)) (m .right-accepts)) (m .right-starts) (m .focus-accepts)
+      right-prev b x a (bitOr rightAccepts (stepArcs toAt fromAt (b .arcs) x a)) rightStarts focusAccepts o
+      (ap (λ (y : ℕ). bitOr y (stepArcs toAt fromAt (b .arcs) x a)) (m .right-accepts)) (m .right-starts) (m .focus-accepts)
   close-step false x a = ap (λ (y : ℕ). bitOr y (stepArcs fromAt toAt (b .arcs) x a)) (m .left-starts) ∙ left-next b x a o
 
   pub close-row : (back : Bool) (x : ℕ) (row : List ℕ) → Stepped (sideArcs back (b .arcs) x) row → (a : ℕ) → a < symbolCount

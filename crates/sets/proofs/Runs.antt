@@ -161,7 +161,8 @@ module _ (M : Machine) (S : Type 0) (In : ℕ → S → Type 0) where
     walk-run X h stop = h
     walk-run {p = p} X h (step {a = a} {m = m} t l) = walk-run (next X a) (next-law X a m .1 (inr (p, h, t))) l
 
-    walk-late : {u v w : List ℕ} {r p s : ℕ} (X : S) → ((r s : ℕ) → Start M r leftPart s → In s X) → Cut u v w → Start M r leftPart p → Run M p v s → In s (walk X w)
+    walk-late : {u v w : List ℕ} {r p s : ℕ} (X : S) → ((r s : ℕ) → Start M r leftPart s → In s X)
+        → Cut u v w → Start M r leftPart p → Run M p v s → In s (walk X w)
     walk-late {r = r} {p = p} X all nil b l = walk-run X (all r p b) l
     walk-late X all (cons {a = a} c) b l = walk-late (next X a) (λ r s b. next-law X a s .1 (inl (r, b))) c b l
 
@@ -232,7 +233,7 @@ module _ (M : Machine) (S : Type 0) (In : ℕ → S → Type 0) where
     back-law (a ∷ w) s = prev-law (walkBack w) a s
 
     -- a run into the set is in the set
-    pub back-run : {u v w : List ℕ} {s q : ℕ} → Cut u v w → Run M s u q → In q (walkBack v) → In s (walkBack w)
+    back-run : {u v w : List ℕ} {s q : ℕ} → Cut u v w → Run M s u q → In q (walkBack v) → In s (walkBack w)
     back-run nil stop h = h
     back-run {s = s} (cons {a = a} {w = w} c) (step {m = m} t l) h = prev-law (walkBack w) a s .1 (inl (inl (m, t, back-run c l h)))
 
@@ -245,7 +246,8 @@ module _ (M : Machine) (S : Type 0) (In : ℕ → S → Type 0) where
       where
         go : {u v w : List ℕ} {s q r : ℕ} → Cut u v w → Run M s u q → Accept M r rightPart q → Near M (Behind w) s
         go {r = r} nil stop b = inr (r, b)
-        go {v = v} {q = q} {r = r} (cons {u = u} c) (step {m = m} t l) b = inl (m, t, right-in (record { word = u; rest = v; to = q; rule = r; cut = c; run = l; accept = b }))
+        go {v = v} {q = q} {r = r} (cons {u = u} c) (step {m = m} t l) b =
+            inl (m, t, right-in (record { word = u; rest = v; to = q; rule = r; cut = c; run = l; accept = b }))
 
     focus-in : {w : List ℕ} {s : ℕ} → FocusRun M w s → In s (walkBack w)
     focus-in z =
@@ -292,8 +294,25 @@ module _ (M : Machine) (S : Type 0) (In : ℕ → S → Type 0) where
       where
         onward : (s : ℕ) {q : ℕ} → M .Step s a q → RightRun M w q ⊎ FocusRun M w q → RightRun M (a ∷ w) s ⊎ FocusRun M (a ∷ w) s
         onward s t = ⊎-elim
-            (λ y. inl (record { word = a ∷ y .word; rest = y .rest; to = y .to; rule = y .rule; cut = cons (y .cut); run = step t (y .run); accept = y .accept }))
-            (λ y. inr (record { word = a ∷ y .word; rest = y .rest; to = y .to; rule = y .rule; cut = cons (y .cut); run = step t (y .run); accept = y .accept; right = y .right }))
+            (λ y. inl (record {
+              word = a ∷ y .word;
+              rest = y .rest;
+              to = y .to;
+              rule = y .rule;
+              cut = cons (y .cut);
+              run = step t (y .run);
+              accept = y .accept;
+            }))
+            (λ y. inr (record {
+              word = a ∷ y .word;
+              rest = y .rest;
+              to = y .to;
+              rule = y .rule;
+              cut = cons (y .cut);
+              run = step t (y .run);
+              accept = y .accept;
+              right = y .right;
+            }))
 
     -- the right set at w holds exactly the right states with a run to acceptance, and the focus states with a run to acceptance before the right language holds
     pub right-set : (w : List ℕ) (s : ℕ) → In s (walkBack w) ↔ (RightRun M w s ⊎ FocusRun M w s)
@@ -329,21 +348,19 @@ module _ (M : Machine) (S : Type 0) (In : ℕ → S → Type 0) where
       abbrev pub prune : S → List ℕ → List ℕ → S
       prune = pruned go walkBack
 
+      -- the pruned set: reached from F, and in the right set; the sets on the way do not show
       prune-to : {u : List ℕ} {p s : ℕ} (F : S) (v : List ℕ) → In p F → Run M p u s → In s (walkBack v) → In s (prune F u v)
       prune-to F v h stop k = h
       prune-to {p = p} F v h (step {a = a} {m = m} {w = u} t l) k =
           prune-to (go F a (walkBack (u ++ v))) v (go-law F a (walkBack (u ++ v)) m .1 ((p, h, t), back-run (cut-of u v) l k)) l k
 
-      prune-from : (u : List ℕ) (F : S) (v : List ℕ) (s : ℕ) → ((p : ℕ) → In p F → In p (walkBack (u ++ v))) → In s (prune F u v) → (p : ℕ) × In p F × Run M p u s × In s (walkBack v)
+      prune-from : (u : List ℕ) (F : S) (v : List ℕ) (s : ℕ) → ((p : ℕ) → In p F → In p (walkBack (u ++ v)))
+          → In s (prune F u v) → (p : ℕ) × In p F × Run M p u s × In s (walkBack v)
       prune-from [] F v s f h = (s, h, stop, f s h)
       prune-from (a ∷ u) F v s f h =
           let z = prune-from u (go F a (walkBack (u ++ v))) v s (λ q g. go-law F a (walkBack (u ++ v)) q .0 g .1) h in
           let y = go-law F a (walkBack (u ++ v)) (z .0) .0 (z .1) .0 in
           (y .0, y .1, step (y .2) (z .2), z .3)
-
-      -- the pruned set: reached from F, and in the right set; the sets on the way do not show
-      pub pruned-set : (u : List ℕ) (F : S) (v : List ℕ) (s : ℕ) → ((p : ℕ) → In p F → In p (walkBack (u ++ v))) → In s (prune F u v) ↔ ((p : ℕ) × In p F × Run M p u s × In s (walkBack v))
-      pruned-set u F v s f = (prune-from u F v s f, λ z. prune-to F v (z .1) (z .2) (z .3))
 
       -- F₀: the focus start states of the rules whose left context holds, and in the right set
       module _ (l : List ℕ) (F : S) (w : List ℕ)
@@ -351,9 +368,10 @@ module _ (M : Machine) (S : Type 0) (In : ℕ → S → Type 0) where
         F-in : {u v : List ℕ} → Cut u v w → (p : ℕ) → In p F → In p (walkBack (u ++ v))
         F-in c p h = subst (λ (x : List ℕ). In p (walkBack x)) (cut-eq c) (F-law p .0 h .1)
 
-        -- a state of the pruned set: where its run began, and its own rule's left context held there
-        pub held : {u v : List ℕ} {s : ℕ} → Cut u v w → In s (prune F u v) → (p : ℕ) × Start M (M .rule s) focusPart p × LeftHolds M (M .rule s) l × Run M p u s × In s (walkBack v)
-        held {u} {v} {s} c h =
+        -- a state of the pruned set: where its run began, and its own rule's left context begun there
+        begun : {u v : List ℕ} {s : ℕ} → Cut u v w → In s (prune F u v)
+            → (p : ℕ) × Start M (M .rule s) focusPart p × LeftHolds M (M .rule s) l × Run M p u s × In s (walkBack v)
+        begun {u} {v} {s} c h =
             let z = prune-from u F v s (F-in c) h in
             let y = F-law (z .0) .0 (z .1) .0 in
             let e : y .0 ≡ M .rule s = sym (y .1 .of) ∙ run-rule stays (z .2) in
@@ -371,7 +389,7 @@ module _ (M : Machine) (S : Type 0) (In : ℕ → S → Type 0) where
 
             from : ((s : ℕ) × Accept M r focusPart s × In s (prune F u v)) → RightHolds M r v → Applies M l u v r
             from z h =
-                let y = held c (z .2) in
+                let y = begun c (z .2) in
                 record {
                   left = subst (λ (x : ℕ). LeftHolds M x l) (z .1 .of) (y .2);
                   focus = record { from = y .0; to = z .0; start = subst (λ (x : ℕ). Start M x focusPart (y .0)) (z .1 .of) (y .1); accept = z .1; run = y .3 };
@@ -384,7 +402,7 @@ module _ (M : Machine) (S : Type 0) (In : ℕ → S → Type 0) where
           where
             to : (s : ℕ) → In s (prune F u v) → Later M l u v
             to s h =
-                let y = held c h in
+                let y = begun c h in
                 ⊎-elim
                 (λ z. let e = one-part stays (y .1) (leads-join (M .Step) (cut-of u (z .word)) (y .3) (z .run)) (z .accept) in absurd (omega arith))
                 (λ z.
@@ -410,5 +428,14 @@ module _ (M : Machine) (S : Type 0) (In : ℕ → S → Type 0) where
                 let h = z .applies in
                 let x = h .focus in
                 let y = leads-part (M .Step) (z .whole) (x .run) in
-                let k = focus-in (record { word = z .more; rest = z .rest; to = x .to; rule = z .rule; cut = z .cut; run = y .2; accept = x .accept; right = h .right }) in
+                let k = focus-in (record {
+                  word = z .more;
+                  rest = z .rest;
+                  to = x .to;
+                  rule = z .rule;
+                  cut = z .cut;
+                  run = y .2;
+                  accept = x .accept;
+                  right = h .right;
+                }) in
                 (y .0, prune-to F v (F-law (x .from) .1 ((z .rule, x .start, h .left), back-run c (y .1) k)) (y .1) k)

@@ -19,7 +19,8 @@ use Rattle.book.proofs.Tests.{and-both, and-left, and-right, or-left, or-right,
 use Rattle.sets.specs.Sets.{setOf, intoBy, backBy, leftFirst, leftNext, near, closed, rightLast, rightPrev}
 use Rattle.sets.specs.Focus.{meetsAccept, meetsStart, focusFirst, focusNext}
 use Rattle.sets.proofs.Runs.{Start, Accept, Near, Close, Back, LeftHolds}
-use Rattle.sets.proofs.Bridge.{ArcStep, machine, opens-from, eqb-in, start-known, accept-known, some-out, some-in, starts-in, starts-out, ends-in, ends-out, start-in, start-out, accept-in, accept-out}
+use Rattle.sets.proofs.Bridge.{ArcStep, machine, opens-from, eqb-in, start-known, accept-known, some-out, some-in}
+use Rattle.sets.proofs.Bridge.{starts-in, starts-out, ends-in, ends-out, start-in, start-out, accept-in, accept-out}
 
 -- the sets that Runs.antt speaks of are numbers
 abbrev pub In : ℕ → ℕ → Type 0
@@ -56,7 +57,12 @@ module _ (b : Book) where
           let u = and-right (member X (x .from)) (opens x (x .from) a && eqb (x .to) s) (z .2) in (
             x .from,
             and-left (member X (x .from)) (opens x (x .from) a && eqb (x .to) s) (z .2),
-            record { arc = x; listed = z .1; open-to = and-left (opens x (x .from) a) (eqb (x .to) s) u; to = eqb→eq (x .to) s (and-right (opens x (x .from) a) (eqb (x .to) s) u) },
+            record {
+              arc = x;
+              listed = z .1;
+              open-to = and-left (opens x (x .from) a) (eqb (x .to) s) u;
+              to = eqb→eq (x .to) s (and-right (opens x (x .from) a) (eqb (x .to) s) u);
+            },
           )
 
       from : ((p : ℕ) × T (member X p) × ArcStep b p a s) → T (intoBy b X a s)
@@ -74,11 +80,16 @@ module _ (b : Book) where
       to : T (backBy b X a s) → (q : ℕ) × ArcStep b s a q × T (member X q)
       to t =
           let z = any-out _ (b .arcs) t in
-          let x = z .0 in
-          (x .to, record { arc = x; listed = z .1; open-to = and-left (opens x s a) (member X (x .to)) (z .2); to = refl }, and-right (opens x s a) (member X (x .to)) (z .2))
+          let x = z .0 in (
+            x .to,
+            record { arc = x; listed = z .1; open-to = and-left (opens x s a) (member X (x .to)) (z .2); to = refl },
+            and-right (opens x s a) (member X (x .to)) (z .2),
+          )
 
       from : ((q : ℕ) × ArcStep b s a q × T (member X q)) → T (backBy b X a s)
-      from z = let y = z .1 in any-in _ (y .listed) (and-both (opens (y .arc) s a) (member X (y .arc .to)) (y .open-to) (subst (λ (q : ℕ). T (member X q)) (sym (y .to)) (z .2)))
+      from z =
+          let y = z .1 in
+          any-in _ (y .listed) (and-both (opens (y .arc) s a) (member X (y .arc .to)) (y .open-to) (subst (λ (q : ℕ). T (member X q)) (sym (y .to)) (z .2)))
 
   -- the tests of a set
   pub meets-accept : (r part X : ℕ) → T (meetsAccept b r part X) ↔ ((s : ℕ) × Accept (machine b) r part s × T (member X s))
@@ -159,8 +170,10 @@ module _ (b : Book) where
       to : T (member (focusFirst b L R) s) → ((r : ℕ) × Start (machine b) r focusPart s × LeftHolds (machine b) r l) × T (member R s)
       to t =
           let u = set-law _ s .0 t .1 in
-          let v = and-left (starts b focusPart s && m) (member R s) u in
-          ((r, starts-out b focusPart s (and-left (starts b focusPart s) m v), e r .1 (meets-accept r leftPart L .0 (and-right (starts b focusPart s) m v))), and-right (starts b focusPart s && m) (member R s) u)
+          let v = and-left (starts b focusPart s && m) (member R s) u in (
+            (r, starts-out b focusPart s (and-left (starts b focusPart s) m v), e r .1 (meets-accept r leftPart L .0 (and-right (starts b focusPart s) m v))),
+            and-right (starts b focusPart s && m) (member R s) u,
+          )
 
       from : ((r : ℕ) × Start (machine b) r focusPart s × LeftHolds (machine b) r l) × T (member R s) → T (member (focusFirst b L R) s)
       from z =
@@ -168,7 +181,8 @@ module _ (b : Book) where
           let k = subst (λ (x : ℕ). LeftHolds (machine b) x l) (sym (y .1 .of)) (y .2) in
           set-law _ s .1 (
             start-known b (y .1),
-            and-both (starts b focusPart s && m) (member R s) (and-both (starts b focusPart s) m (starts-in b (y .1)) (meets-accept r leftPart L .1 (e r .0 k))) (z .1),
+            and-both (starts b focusPart s && m) (member R s)
+                (and-both (starts b focusPart s) m (starts-in b (y .1)) (meets-accept r leftPart L .1 (e r .0 k))) (z .1),
           )
 
   -- the steps: the states of an arc are the book's
@@ -184,7 +198,9 @@ module _ (b : Book) where
     next-law X a s = (to, from)
       where
         to : T (member (leftNext b X a) s) → ((r : ℕ) × Start (machine b) r leftPart s) ⊎ ((p : ℕ) × T (member X p) × ArcStep b p a s)
-        to t = ⊎-elim (λ k. inl (starts-law leftPart s .0 k)) (λ k. inr (into-law X a s .0 k)) (or-cases (starts b leftPart s) (intoBy b X a s) (set-law _ s .0 t .1))
+        to t =
+            ⊎-elim (λ k. inl (starts-law leftPart s .0 k)) (λ k. inr (into-law X a s .0 k))
+            (or-cases (starts b leftPart s) (intoBy b X a s) (set-law _ s .0 t .1))
 
         from : ((r : ℕ) × Start (machine b) r leftPart s) ⊎ ((p : ℕ) × T (member X p) × ArcStep b p a s) → T (member (leftNext b X a) s)
         from = ⊎-elim (λ z. set-law _ s .1 (start-known b (z .1), or-left (starts b leftPart s) (intoBy b X a s) (starts-law leftPart s .1 z)))

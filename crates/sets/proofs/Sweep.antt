@@ -26,7 +26,8 @@ use Rattle.book.proofs.Laws.{size-state, size-arc}
 use Rattle.book.proofs.Passed.{Passed}
 use Rattle.book.proofs.Accepted.{is-accepted}
 use Rattle.book.proofs.Sound.{accepted-sound, kind-arc, ArcPassed, arc-passed}
-use Rattle.book.proofs.Walk.{Walk, walk-start, walk-passed, walk-last, walk-more, walk-ind, states-more, states-same, arcs-more, arcs-same, first-same, first-rule}
+use Rattle.book.proofs.Walk.{Walk, walk-start, walk-passed, walk-last, walk-more, walk-ind}
+use Rattle.book.proofs.Walk.{states-more, states-same, arcs-more, arcs-same, first-same, first-rule}
 use Rattle.book.proofs.Placing.{place-fits, Found, found, found-place}
 use Rattle.sets.specs.Stepping.{hopFold, stepFold, endOf, turned, stepArcs, Within, SweptAll}
 use Rattle.sets.proofs.Folds.{step-or, step-end}
@@ -58,11 +59,13 @@ not-held set s z = go (member set s) (bit-of set s)
     go true e = absurd (omega arith)
     go false e = refl
 
-pub hop-bits : (x : Arc) (set a one two three : ℕ) → x .to < mostStates → one ≡ bitAnd (set / 2 ^ x .from) 1 → two ≡ cond (leb (x .low) a) one 0 → three ≡ cond (leb a (x .high)) two 0
+pub hop-bits : (x : Arc) (set a one two three : ℕ) → x .to < mostStates
+    → one ≡ bitAnd (set / 2 ^ x .from) 1 → two ≡ cond (leb (x .low) a) one 0 → three ≡ cond (leb a (x .high)) two 0
     → (three * 2 ^ x .to) % 2 ^ 64 ≡ hopFold x set a
 unfolding hopFold
 hop-bits x set a one two three h e f g =
-    ap (λ (y : ℕ). (y * 2 ^ x .to) % 2 ^ 64) (g ∙ ap (λ (y : ℕ). cond (leb a (x .high)) y 0) (f ∙ ap (λ (y : ℕ). cond (leb (x .low) a) y 0) (e ∙ bit-of set (x .from))))
+    ap (λ (y : ℕ). (y * 2 ^ x .to) % 2 ^ 64)
+    (g ∙ ap (λ (y : ℕ). cond (leb a (x .high)) y 0) (f ∙ ap (λ (y : ℕ). cond (leb (x .low) a) y 0) (e ∙ bit-of set (x .from))))
     ∙ go (member set (x .from)) (leb (x .low) a) (leb a (x .high))
   where
     none : (0 * 2 ^ x .to) % 2 ^ 64 ≡ 0
@@ -145,7 +148,8 @@ first-grows s at b B w = go (ℕ-discrete (byte s at) ruleKind)
     go (no k) = rw (first-same s at b k) (omega arith)
 
 -- a place other than 0 is that of the state's record
-placed : (s : List ℕ) (state place : ℕ) → checkDef s .reply ≡ 0 → place ≡ stateOf (bookOf s) state .place → 0 < place → Found s (bookOf s) state (stateOf (bookOf s) state)
+placed : (s : List ℕ) (state place : ℕ) → checkDef s .reply ≡ 0 → place ≡ stateOf (bookOf s) state .place → 0 < place
+    → Found s (bookOf s) state (stateOf (bookOf s) state)
 placed s state place z e h = go (decLt state (length (bookOf s .states)))
   where
     go : Dec (state < length (bookOf s .states)) → Found s (bookOf s) state (stateOf (bookOf s) state)
@@ -260,7 +264,8 @@ module _ (p q : ℕ) where
   pub sweep-start : (s : List ℕ) (state place set a : ℕ) → checkDef s .reply ≡ 0 → place ≡ stateOf (bookOf s) state .place → 0 < place
       → Sweeping p q s (bookOf s) state set a 0 (place + stateSize) (state + 1)
   sweep-start s state place set a z e h =
-      subst (λ (n : ℕ). Sweeping p q s (bookOf s) state set a 0 (n + stateSize) (state + 1)) (sym e) (go (stateOf (bookOf s) state) (placed s state place z e h))
+      subst (λ (n : ℕ). Sweeping p q s (bookOf s) state set a 0 (n + stateSize) (state + 1)) (sym e)
+      (go (stateOf (bookOf s) state) (placed s state place z e h))
     where
       go : (st : State) → Found s (bookOf s) state st → Sweeping p q s (bookOf s) state set a 0 (st .place + stateSize) (state + 1)
       go st f =
@@ -291,7 +296,8 @@ module _ (p q : ℕ) where
     pub sweep-state : byte s at ≡ stateKind → (at + stateSize ≤ length s) × (next ≤ mostStates)
     sweep-state k = (omega (arith, sweep-passed .whole, size-state k), omega (arith, i .count, i .walk .sound .states))
 
-    pub sweep-turn-arc : (r : ℕ) → byte s at ≡ arcKind → r ≡ hopFold (turned p q (arcAt s at)) set a → Sweeping p q s B state set a (bitOr out r) (at + arcSize) next
+    pub sweep-turn-arc : (r : ℕ) → byte s at ≡ arcKind → r ≡ hopFold (turned p q (arcAt s at)) set a
+        → Sweeping p q s B state set a (bitOr out r) (at + arcSize) next
     sweep-turn-arc r k e =
         let b = i .book in
         let x = turned p q (arcAt s at) in

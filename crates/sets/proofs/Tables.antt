@@ -92,19 +92,22 @@ built-tables book R S r R′ S′ e z =
 
 -- walking the rows along a tape, or from its end, gives the number of its set
 module _ (book rows sets : List ℕ) (t : Tables book rows sets) where
-  pub left-walk : (w : List ℕ) → Tape w → (after (leftEntry rows) 0 w < leftCount book) × (leftSet sets (after (leftEntry rows) 0 w) ≡ leftOver (bookOf book) w)
+  pub left-walk : (w : List ℕ) → Tape w
+      → (after (leftEntry rows) 0 w < leftCount book) × (leftSet sets (after (leftEntry rows) 0 w) ≡ leftOver (bookOf book) w)
   left-walk =
       walk-front _ _ _ (leftEntry rows) (leftSet sets)
       (record { some = t .left-some; first = t .left-first; below = t .left-below; step = t .left-next; once = t .left-once })
 
-  pub right-walk : (w : List ℕ) → Tape w → (before 0 (rightEntry rows) w < rightCount book) × (rightSet sets (before 0 (rightEntry rows) w) ≡ rightOver (bookOf book) w)
+  pub right-walk : (w : List ℕ) → Tape w
+      → (before 0 (rightEntry rows) w < rightCount book) × (rightSet sets (before 0 (rightEntry rows) w) ≡ rightOver (bookOf book) w)
   right-walk =
       walk-end _ _ _ (rightEntry rows) (rightSet sets)
       (record { some = t .right-some; first = t .right-first; below = t .right-below; step = t .right-next; once = t .right-once })
 
 -- the numbers that a walk gives are those of the numbering: the right set of number k stands where the table has it
 module _ (book R S : List ℕ) (z : buildDef book R S .answer .reply ≡ 0) where
-  right-place : (x : AfterBuild) → Way book R S x → x .answer .reply ≡ 0 → (k : ℕ) → k < mostSets → rightSet (x .sets) k ≡ getD (rightTable (bookOf book) .sets) k 0
+  right-place : (x : AfterBuild) → Way book R S x → x .answer .reply ≡ 0
+      → (k : ℕ) → k < mostSets → rightSet (x .sets) k ≡ getD (rightTable (bookOf book) .sets) k 0
   unfolding leftCount rightCount
   right-place x (refused h e) z k l = absurd (h (sym (ap (λ (y : AfterBuild). y .answer .reply) e) ∙ z))
   right-place x (short h s e) z k l = absurd (let q = ap (λ (y : AfterBuild). y .answer .reply) e in omega arith)
@@ -112,7 +115,8 @@ module _ (book R S : List ℕ) (z : buildDef book R S .answer .reply ≡ 0) wher
   right-place x (many-right o g r e) z k l = absurd (let q = ap (λ (y : AfterBuild). y .answer .reply) e in omega arith)
   right-place x (built o g r e) z k l = ap (λ (y : AfterBuild). rightSet (y .sets) k) e ∙ part-two mostSets _ _ _ g r k (mostSets + k) l refl
 
-  pub right-number : (w : List ℕ) → Tape w → before 0 (rightEntry (buildDef book R S .rows)) w ≡ idx (rightTable (bookOf book) .sets) (rightOver (bookOf book) w)
+  pub right-number : (w : List ℕ) → Tape w
+      → before 0 (rightEntry (buildDef book R S .rows)) w ≡ idx (rightTable (bookOf book) .sets) (rightOver (bookOf book) w)
   unfolding rightCount rightTable
   right-number w t =
       let b = tables book R S z in
@@ -136,7 +140,8 @@ module _ (book R S : List ℕ) where
   rows-kept x (short h s e) = ap (λ (y : AfterBuild). length (y .rows)) e
   rows-kept x (many-left o l e) = ap (λ (y : AfterBuild). length (y .rows)) e ∙ cleared-length rowBytes R (o .rows)
   rows-kept x (many-right o l r e) = ap (λ (y : AfterBuild). length (y .rows)) e ∙ cleared-length rowBytes R (o .rows)
-  rows-kept x (built o l r e) = ap (λ (y : AfterBuild). length (y .rows)) e ∙ filled-length pairs _ _ R (left-width book R S l r) (right-width book R S l r) (o .rows)
+  rows-kept x (built o l r e) =
+      ap (λ (y : AfterBuild). length (y .rows)) e ∙ filled-length pairs _ _ R (left-width book R S l r) (right-width book R S l r) (o .rows)
 
   sets-kept : (x : AfterBuild) → Way book R S x → length (x .sets) ≡ length S
   unfolding leftCount rightCount

@@ -1,4 +1,4 @@
--- Laws of run: the table after the first j pairs.
+-- Laws of run: the table after the first j pairs. Assumes nothing.
 use Prim.Native.Nat.{ℕ, zero, suc, _+_, _-_, _*_, _≤_, _<_}
 use mathlib.Core.Path.{_≡_, refl, sym, ap, _∙_, subst}
 use mathlib.Core.List.{List, [], _∷_, _++_, append-nil, append-assoc}
@@ -41,7 +41,9 @@ module _ (f : ℕ → ℕ → ℕ) (j : ℕ) (t : Table) where
     where
       by-number : j < symbolCount * length (t .sets) → Dec (idx (t .sets) (next f j (t .sets)) ≡ length (t .sets)) → Turned f j t (turn f j t)
       by-number h (yes e) = let q = turn-go h ∙ enter-new _ _ t e in new h e (ap (λ (u : Table). u .sets) q) (ap (λ (u : Table). u .rows) q)
-      by-number h (no ne) = let q = turn-go h ∙ enter-old _ _ t ne in old h (omega (arith, idx-le (t .sets) (next f j (t .sets)))) (ap (λ (u : Table). u .sets) q) (ap (λ (u : Table). u .rows) q)
+      by-number h (no ne) =
+          let q = turn-go h ∙ enter-old _ _ t ne in
+          old h (omega (arith, idx-le (t .sets) (next f j (t .sets)))) (ap (λ (u : Table). u .sets) q) (ap (λ (u : Table). u .rows) q)
 
       by : Dec (j < symbolCount * length (t .sets)) → Turned f j t (turn f j t)
       by (yes h) = by-number h (ℕ-discrete _ _)
@@ -74,8 +76,10 @@ module _ (f : ℕ → ℕ → ℕ) (s : ℕ) where
   grows j zero = ([], ap (λ (k : ℕ). (run f s k) .sets) (add-zero j) ∙ sym (append-nil _))
   grows j (suc m) =
       let a = grows j m in
-      let b = grows-one (run f s (j + m)) (run f s (suc (j + m))) (j + m) (ran (j + m)) in
-      (a .0 ++ b .0, ap (λ (k : ℕ). (run f s k) .sets) (add-suc j m) ∙ b .1 ∙ ap (λ (l : List ℕ). l ++ b .0) (a .1) ∙ append-assoc ((run f s j) .sets) (a .0) (b .0))
+      let b = grows-one (run f s (j + m)) (run f s (suc (j + m))) (j + m) (ran (j + m)) in (
+        a .0 ++ b .0,
+        ap (λ (k : ℕ). (run f s k) .sets) (add-suc j m) ∙ b .1 ∙ ap (λ (l : List ℕ). l ++ b .0) (a .1) ∙ append-assoc ((run f s j) .sets) (a .0) (b .0),
+      )
 
   pub run-more : (j m : ℕ) → length ((run f s j) .sets) ≤ length ((run f s (j + m)) .sets)
   run-more j m = let g = grows j m in omega (arith, simp length-append at (ap length (g .1)))

@@ -1,4 +1,4 @@
--- The ways of BUILD: what each way out of the code leaves is what the definition says, and the definition has no other way.
+-- The ways of BUILD: what each way out of the code leaves is what the definition says, and the definition has no other way. Assumes nothing.
 use Prim.Native.Nat.{ℕ, _+_, _≤_, _<_}
 use mathlib.Core.Path.{_≡_, refl, sym, ap, ap₂, _∙_}
 use mathlib.Core.Logic.{_⊎_, inl, inr}
@@ -12,7 +12,8 @@ use lib.Seq.{drop-drop}
 use borrow.Author.Tests.{eq-eqb, ne-eqb, lt-ltb, le-ltb}
 use Rattle.book.specs.Reading.{Book, checkDef, bookOf}
 use Rattle.sets.specs.Numbering.{mostSets, pairs, Table, pad}
-use Rattle.sets.specs.Workspace.{rowBytes, setWords, leftTable, rightTable, AfterBuild, buildLeaves, refusal, unchanged, cleared, filled, numbered, buildDef}
+use Rattle.sets.specs.Workspace.{rowBytes, setWords, leftTable, rightTable, AfterBuild, buildLeaves}
+use Rattle.sets.specs.Workspace.{refusal, unchanged, cleared, filled, numbered, buildDef}
 use Rattle.sets.specs.Tables.{leftCount, rightCount}
 use Rattle.sets.specs.Sides.{sideFirst, sideStep, sideTable, NumberedAt}
 use Rattle.sets.specs.declared.Built.{Built}
@@ -25,7 +26,8 @@ by-name b R S = refl
 
 module _ (book R S : List ℕ) where
   -- CHECK's refusals, and a workspace that is too short: nothing is changed
-  pub way-refused : (r : Built) → (checkDef book .reply ≡ 0 → ⊥) → r ≡ refusal (checkDef book .reply) (checkDef book .place) → buildLeaves r R S ≡ buildDef book R S
+  pub way-refused : (r : Built) → (checkDef book .reply ≡ 0 → ⊥)
+      → r ≡ refusal (checkDef book .reply) (checkDef book .place) → buildLeaves r R S ≡ buildDef book R S
   unfolding buildDef
   way-refused r h e = simp (ne-eqb _ _ h) (ap (λ (a : Built). buildLeaves a R S) e)
 
@@ -65,7 +67,8 @@ module _ (left right : Table) (R S : List ℕ) where
 
 module _ (left right : Table) (R S : List ℕ) (n : ℕ) (R₁ S₁ : List ℕ) (one : NumberedAt left n 0 0 R S R₁ S₁) where
   -- 13: both parts all 0
-  pub way-left : (r : Built) (R₂ S₂ : List ℕ) → mostSets < n → R₂ ≡ pad rowBytes [] ++ drop rowBytes R₁ → S₂ ≡ pad setWords [] ++ drop setWords S₁ → r ≡ refusal 13 0
+  pub way-left : (r : Built) (R₂ S₂ : List ℕ) → mostSets < n
+      → R₂ ≡ pad rowBytes [] ++ drop rowBytes R₁ → S₂ ≡ pad setWords [] ++ drop setWords S₁ → r ≡ refusal 13 0
       → buildLeaves r R₂ S₂ ≡ numbered left right R S
   way-left r R₂ S₂ o er es e =
       let rows = er ∙ ap (λ (l : List ℕ). pad rowBytes [] ++ l) (past pairs pairs R R₁ (one .rows-after)) in
@@ -77,7 +80,8 @@ module _ (left right : Table) (R S : List ℕ) (n : ℕ) (R₁ S₁ : List ℕ) 
     fits = omega (arith, one .numbered .count few)
 
     -- 14: both parts all 0
-    pub way-right : (r : Built) (R₃ S₃ : List ℕ) → mostSets < m → R₃ ≡ pad rowBytes [] ++ drop rowBytes R₂ → S₃ ≡ pad setWords [] ++ drop setWords S₂ → r ≡ refusal 14 0
+    pub way-right : (r : Built) (R₃ S₃ : List ℕ) → mostSets < m
+        → R₃ ≡ pad rowBytes [] ++ drop rowBytes R₂ → S₃ ≡ pad setWords [] ++ drop setWords S₂ → r ≡ refusal 14 0
         → buildLeaves r R₃ S₃ ≡ numbered left right R S
     way-right r R₃ S₃ o er es e =
         let rows = er ∙ ap (λ (l : List ℕ). pad rowBytes [] ++ l) (two .rows-after ∙ past pairs pairs R R₁ (one .rows-after)) in
@@ -90,11 +94,13 @@ module _ (left right : Table) (R S : List ℕ) (n : ℕ) (R₁ S₁ : List ℕ) 
         let answer = e ∙ ap₂ (λ (x y : ℕ). record { reply = 0; place = 0; left = x; right = y }) (one .numbered .count few) (two .numbered .count k) in
         let rows : R₂ ≡ pad pairs (left .rows) ++ (pad pairs (right .rows) ++ drop rowBytes R) =
         three pairs pairs R₂
-        ∙ ap₂ _++_ (two .rows-before ∙ one .numbered .rows few) (ap₂ _++_ (two .numbered .rows k) (two .rows-after ∙ past pairs pairs R R₁ (one .rows-after)))
+        ∙ ap₂ _++_ (two .rows-before ∙ one .numbered .rows few)
+        (ap₂ _++_ (two .numbered .rows k) (two .rows-after ∙ past pairs pairs R R₁ (one .rows-after)))
         in
         let sets : S₂ ≡ pad mostSets (left .sets) ++ (pad mostSets (right .sets) ++ drop setWords S) =
         three mostSets mostSets S₂
-        ∙ ap₂ _++_ (two .sets-before ∙ one .numbered .sets few) (ap₂ _++_ (two .numbered .sets k) (two .sets-after ∙ past mostSets mostSets S S₁ (one .sets-after)))
+        ∙ ap₂ _++_ (two .sets-before ∙ one .numbered .sets few)
+        (ap₂ _++_ (two .numbered .sets k) (two .sets-after ∙ past mostSets mostSets S S₁ (one .sets-after)))
         in
         (λ i. buildLeaves (answer i) (rows i) (sets i)) ∙ sym (numbered-both left right R S fits (omega (arith, two .numbered .count k)))
 
@@ -110,14 +116,18 @@ pub data Way (book R S : List ℕ) (x : AfterBuild) : Type 0 where
   short : checkDef book .reply ≡ 0 → (length R < rowBytes) ⊎ (length S < setWords) → x ≡ unchanged 11 0 R S → Way book R S x
   many-left : Buildable book R S → mostSets < leftCount book → x ≡ cleared 13 R S → Way book R S x
   many-right : Buildable book R S → leftCount book ≤ mostSets → mostSets < rightCount book → x ≡ cleared 14 R S → Way book R S x
-  built : Buildable book R S → leftCount book ≤ mostSets → rightCount book ≤ mostSets → x ≡ filled (leftTable (bookOf book)) (rightTable (bookOf book)) R S → Way book R S x
+  built : Buildable book R S → leftCount book ≤ mostSets → rightCount book ≤ mostSets
+      → x ≡ filled (leftTable (bookOf book)) (rightTable (bookOf book)) R S → Way book R S x
 
 module _ (book R S : List ℕ) where
+  on : Buildable book R S → buildDef book R S ≡ numbered (leftTable (bookOf book)) (rightTable (bookOf book)) R S
+  on o = sym (way-on book R S (o .accepted) (o .rows) (o .sets))
+
   buildable-way : (o : Buildable book R S) → Dec (mostSets < leftCount book) → Dec (mostSets < rightCount book) → Way book R S (buildDef book R S)
   unfolding leftCount rightCount
-  buildable-way o (yes h) d = many-left o h (sym (way-on book R S (o .accepted) (o .rows) (o .sets)) ∙ numbered-left _ _ R S h)
-  buildable-way o (no h) (yes g) = many-right o (omega arith) g (sym (way-on book R S (o .accepted) (o .rows) (o .sets)) ∙ numbered-right _ _ R S (omega arith) g)
-  buildable-way o (no h) (no g) = built o (omega arith) (omega arith) (sym (way-on book R S (o .accepted) (o .rows) (o .sets)) ∙ numbered-both _ _ R S (omega arith) (omega arith))
+  buildable-way o (yes h) d = many-left o h (on o ∙ numbered-left _ _ R S h)
+  buildable-way o (no h) (yes g) = many-right o (omega arith) g (on o ∙ numbered-right _ _ R S (omega arith) g)
+  buildable-way o (no h) (no g) = built o (omega arith) (omega arith) (on o ∙ numbered-both _ _ R S (omega arith) (omega arith))
 
   checked-way : checkDef book .reply ≡ 0 → Dec (length R < rowBytes) → Dec (length S < setWords) → Way book R S (buildDef book R S)
   checked-way z (yes h) d = short z (inl h) (sym (way-rows book R S z _ h refl))

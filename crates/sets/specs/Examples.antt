@@ -37,10 +37,12 @@ pub house-built : shown (buildDef house (replicate (rowBytes + 2) 255) (replicat
     (255 ∷ 255 ∷ []) ∷
     (255 ∷ []) ∷
     []
-unfolding house recordSize symbolFits symbolsFit ruleReply stateReply given arcReply endReply kindReply recordReply withRecord readFrom readBook checkDef bookOf flagged isStart member encode
+unfolding house recordSize symbolFits symbolsFit ruleReply stateReply given arcReply endReply kindReply recordReply
+    withRecord readFrom readBook checkDef bookOf flagged isStart member encode
     setOf intoBy backBy leftFirst leftNext closed rightLast rightPrev idx enter next met turn run all pad leftTable rightTable numbered buildDef
 house-built = refl
 
 pub house-short : buildDef house (replicate rowBytes 255) (replicate (setWords - 1) 255) .answer ≡ refusal 11 0
-unfolding house recordSize symbolFits symbolsFit ruleReply stateReply given arcReply endReply kindReply recordReply withRecord readFrom readBook checkDef buildDef
+unfolding house recordSize symbolFits symbolsFit ruleReply stateReply given arcReply endReply kindReply recordReply
+    withRecord readFrom readBook checkDef buildDef
 house-short = refl

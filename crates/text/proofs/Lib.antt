@@ -1,2 +1,4 @@
+-- Laws of a text.
 pub mod Putting
+-- That contracts determine results.
 pub mod One

@@ -1,1 +1,2 @@
+-- For the contracts: a text and what is put into it.
 pub mod Text

@@ -1,4 +1,4 @@
--- Four ways out: CHECK's refusal, either piece too short, and both sides numbered.
+-- `build` meets its contract by each of four ways out: CHECK's refusal, either piece too short, both sides numbered. Assumes nothing.
 use Rattle.sets.proofs.WaysOut.{way-refused, way-rows, way-sets}
 use Rattle.sets.specs.Workspace.{setWords, refusal}
 use Rattle.book.specs.declared.Checked.{Checked}
@@ -24,14 +24,16 @@ refused-requires c κs = search needs
 returns : tie.Need-returns
 returns c =
     let e = reply-same _ _ (c .before .before .before .check .ensures) in
-    way-refused _ _ _ _ (λ z. c .before .if1 .taken (e ∙ z)) (c .refused .ensures ∙ ap (λ (x : Checked). refusal (x .reply) (x .place)) (c .before .before .before .check .ensures))
+    way-refused _ _ _ _ (λ z. c .before .if1 .taken (e ∙ z))
+    (c .refused .ensures ∙ ap (λ (x : Checked). refusal (x .reply) (x .place)) (c .before .before .before .check .ensures))
 
 refused-requires-2 : tie.Need-refused-requires-2
 refused-requires-2 c κs = search needs
 
 returns-2 : tie.Need-returns-2
 returns-2 c =
-    way-rows _ _ _ (sym (reply-same _ _ (c .before .before .before .before .check .ensures)) ∙ c .before .before .if1 .left) _ (c .before .if2 .taken) (c .refused2 .ensures)
+    way-rows _ _ _ (sym (reply-same _ _ (c .before .before .before .before .check .ensures)) ∙ c .before .before .if1 .left) _
+    (c .before .if2 .taken) (c .refused2 .ensures)
 
 refused-requires-3 : tie.Need-refused-requires-3
 refused-requires-3 c κs = search needs
@@ -40,7 +42,8 @@ returns-3 : tie.Need-returns-3
 returns-3 c =
     let S = c .before .before .before .before .before .before .before .before .before .args .sets .now in
     let short : length S < setWords = omega arith in
-    way-sets _ _ S (sym (reply-same _ _ (c .before .before .before .before .before .check .ensures)) ∙ c .before .before .before .if1 .left) _ short (c .refused3 .ensures)
+    way-sets _ _ S (sym (reply-same _ _ (c .before .before .before .before .before .check .ensures)) ∙ c .before .before .before .if1 .left) _
+    short (c .refused3 .ensures)
 
 number-book-requires : tie.Need-number-book-requires
 number-book-requires c κs =

@@ -1,4 +1,4 @@
--- What the outline of the book ensures is what both sides are lent.
+-- `number_book` meets its contract: what the outline of the book ensures is what both sides are lent. Assumes nothing.
 use borrow.Author.Needs.{needs}
 use mathlib.Core.Path.{_∙_}
 use Rattle.book.proofs.Placing.{placed}

@@ -1,4 +1,4 @@
--- Three ways out: more left sets than the most, more right ones, or both sides numbered.
+-- `number_both` meets its contract by each of three ways out: more left sets than the most, more right ones, both sides numbered. Assumes nothing.
 use Rattle.sets.proofs.WaysOut.{way-left, way-right, way-built}
 use mathlib.Core.Path.{refl}
 use native.Mathlib.Omega.{arith}
@@ -24,7 +24,10 @@ same-length-2 c = search needs
 
 returns : tie.Need-returns
 returns c =
-    way-left _ _ _ _ _ _ _ (c .before .before .before .before .before .before .before .before .before .before .before .before .before .number-part .ensures) _ _ _ (c .before .before .before .before .before .before .before .before .if1 .taken) (c .before .before .before .before .before .clear .ensures .0) (c .before .before .before .before .before .clear .ensures .1) (c .refused .ensures)
+    let cleared = c .before .before .before .before .before .clear .ensures in
+    let b = c .before .before .before .before .before .before .before .before in
+    way-left _ _ _ _ _ _ _ (b .before .before .before .before .before .number-part .ensures) _ _ _
+    (b .if1 .taken) (cleared .0) (cleared .1) (c .refused .ensures)
 
 number-part-requires-2 : tie.Need-number-part-requires-2
 number-part-requires-2 c κs =
@@ -50,7 +53,11 @@ same-length-4 c = search needs
 
 returns-2 : tie.Need-returns-2
 returns-2 c =
-    way-right _ _ _ _ _ _ _ (c .before .before .before .before .before .before .before .before .before .before .before .before .before .before .before .before .before .before .before .before .before .number-part .ensures) (c .before .before .before .before .before .before .before .before .before .before .before .before .before .before .before .before .if1 .left) _ _ _ (c .before .before .before .before .before .before .before .before .before .before .before .before .before .number-part2 .ensures) _ _ _ (c .before .before .before .before .before .before .before .before .if2 .taken) (c .before .before .before .before .before .clear2 .ensures .0) (c .before .before .before .before .before .clear2 .ensures .1) (c .refused2 .ensures)
+    let cleared = c .before .before .before .before .before .clear2 .ensures in
+    let b = c .before .before .before .before .before .before .before .before in
+    let a = b .before .before .before .before .before .before .before .before in
+    way-right _ _ _ _ _ _ _ (a .before .before .before .before .before .number-part .ensures) (a .if1 .left) _ _ _
+    (b .before .before .before .before .before .number-part2 .ensures) _ _ _ (b .if2 .taken) (cleared .0) (cleared .1) (c .refused2 .ensures)
 
 same-length-5 : tie.Need-same-length-5
 same-length-5 c = search needs
@@ -60,7 +67,9 @@ same-length-6 c = search needs
 
 returns-3 : tie.Need-returns-3
 returns-3 c =
-    way-built _ _ _ _ _ _ _ (c .before .before .before .before .before .before .before .before .before .before .before .before .before .number-part .ensures) (c .before .before .before .before .before .before .before .before .if1 .left) _ _ _ (c .before .before .before .before .before .number-part2 .ensures) _ (c .if2 .left) refl
+    let a = c .before .before .before .before .before .before .before .before in
+    way-built _ _ _ _ _ _ _ (a .before .before .before .before .before .number-part .ensures) (a .if1 .left) _ _ _
+    (c .before .before .before .before .before .number-part2 .ensures) _ (c .if2 .left) refl
 
 pub number-both-spec : {M : Type 1} → statement M
 number-both-spec =

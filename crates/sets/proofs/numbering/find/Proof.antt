@@ -1,4 +1,5 @@
--- The number of the set is the places passed and its number among those that are left; the search stops where that is 0.
+-- `numbering::find` meets its contract: the number of the set is the places passed and its number among those that are left; the search
+-- stops where that is 0. Assumes nothing.
 use Prim.Native.Nat.{_≤_, _-_, _+_}
 use mathlib.Core.Path.{_≡_}
 use native.Mathlib.Omega.{arith}
@@ -31,8 +32,9 @@ loop-less c = omega arith
 
 loop-again : tie.Need-loop-again Inv-loop μ-loop
 loop-again c =
-    let a = c .before .before .before .before .args in
-    omega (arith, search-on (a .sets .now) (a .count) (a .set) (c .before .before .before .before .pre) (c .before .before .before .loop .i) (omega arith) (c .if2 .left))
+    let s = c .before .before .before .before in
+    let a = s .args in
+    omega (arith, search-on (a .sets .now) (a .count) (a .set) (s .pre) (c .before .before .before .loop .i) (omega arith) (c .if2 .left))
 
 returns : tie.Need-returns Inv-loop μ-loop
 returns c =
@@ -41,8 +43,9 @@ returns c =
 
 returns-2 : tie.Need-returns-2 Inv-loop μ-loop
 returns-2 c =
-    let a = c .before .before .before .before .args in
-    omega (arith, search-stop (a .sets .now) (a .count) (a .set) (c .before .before .before .before .pre) (c .before .before .before .loop .i) (omega arith) (c .if2 .taken))
+    let s = c .before .before .before .before in
+    let a = s .args in
+    omega (arith, search-stop (a .sets .now) (a .count) (a .set) (s .pre) (c .before .before .before .loop .i) (omega arith) (c .if2 .taken))
 
 pub find-spec : {M : Type 1} → statement M
 find-spec =

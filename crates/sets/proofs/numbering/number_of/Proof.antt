@@ -1,4 +1,4 @@
--- The last step's number, or the search for the closed one.
+-- `numbering::number_of` meets its contract: the last step's number, or the search for the closed one. Assumes nothing.
 use Prim.Native.Nat.{ℕ}
 use mathlib.Core.Path.{ap, sym, _∙_}
 use lib.ListN.{take}
@@ -12,7 +12,9 @@ returns : tie.Need-returns
 returns c =
     let a = c .before .before .args in
     c .before .before .pre .1
-    ∙ ap (λ (x : ℕ). idx (take (a .count) (a .sets .now)) (closeBy (a .left-starts) (a .right-accepts) (a .right-starts .now) (a .focus-accepts .now) (a .back) x)) (sym (c .if1 .taken))
+    ∙ ap
+    (λ (x : ℕ). idx (take (a .count) (a .sets .now)) (closeBy (a .left-starts) (a .right-accepts) (a .right-starts .now) (a .focus-accepts .now) (a .back) x))
+    (sym (c .if1 .taken))
 
 close-requires : tie.Need-close-requires
 close-requires c κs = search needs

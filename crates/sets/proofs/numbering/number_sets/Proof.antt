@@ -1,5 +1,6 @@
--- The outer loop stands before row k and the inner one before symbol a of it: rows and sets hold the table after that many pairs, and the
--- number of the last step's set is at hand. A number that is written is below the most, by the two ways to come to it.
+-- `numbering::number_sets` meets its contract: the outer loop stands before row k and the inner one before symbol a of it; rows and sets
+-- hold the table after that many pairs, and the number of the last step's set is at hand. A number that is written is below the most, by the
+-- two ways to come to it. Assumes nothing.
 use Prim.Native.Nat.{_<_, _-_}
 use mathlib.Core.Path.{_∙_}
 use mathlib.Core.Logic.{⊎-elim}
@@ -12,14 +13,16 @@ use Rattle.sets.specs.Stepping.{closeBy}
 use Rattle.sets.specs.Numbering.{mostSets}
 use Rattle.sets.specs.Sides.{sideFirst, sideStep, sideTable}
 use Rattle.sets.proofs.Rows.{close-first, close-row}
-use Rattle.sets.proofs.At.{Before, In, clear-rows, clear-sets, before-first, whole, too-many, in-first, in-last, in-new, in-old, in-full, new-small, old-small}
+use Rattle.sets.proofs.At.{Before, In, clear-rows, clear-sets, before-first, whole, too-many}
+use Rattle.sets.proofs.At.{in-first, in-last, in-new, in-old, in-full, new-small, old-small}
 use borrow.Author.Needs.{needs}
 use Rattle.sets.proofs.numbering.number_sets.Statement.{statement}
 use Rattle.sets.proofs.numbering.number_sets.Tie as tie
 
 abbrev Inv-loop : tie.InvT-loop
 Inv-loop book places leftStarts rightAccepts rightStarts focusAccepts back rows₀ sets₀ count₀ k last₀ number₀ row symbol₀ rows sets count last number symbol =
-    In (sideStep (bookOf book) back) (closeBy leftStarts rightAccepts rightStarts focusAccepts back) (sideFirst (bookOf book) back) k symbol (row .each) rows sets count last number
+    In (sideStep (bookOf book) back) (closeBy leftStarts rightAccepts rightStarts focusAccepts back) (sideFirst (bookOf book) back)
+    k symbol (row .each) rows sets count last number
 
 abbrev μ-loop : tie.MeasureT-loop
 μ-loop book places leftStarts rightAccepts rightStarts focusAccepts back rows₀ sets₀ count₀ k last₀ number₀ row symbol₀ rows sets count last number symbol =
@@ -27,7 +30,8 @@ abbrev μ-loop : tie.MeasureT-loop
 
 abbrev Inv-all : tie.InvT-all
 Inv-all book places leftStarts rightAccepts rightStarts focusAccepts back rows₀ sets₀ count₀ k₀ last₀ number₀ rows sets count k last number =
-    Before (sideStep (bookOf book) back) (closeBy leftStarts rightAccepts rightStarts focusAccepts back) (sideFirst (bookOf book) back) k rows sets count last number
+    Before (sideStep (bookOf book) back) (closeBy leftStarts rightAccepts rightStarts focusAccepts back) (sideFirst (bookOf book) back)
+    k rows sets count last number
 
 abbrev μ-all : tie.MeasureT-all
 μ-all book places leftStarts rightAccepts rightStarts focusAccepts back rows₀ sets₀ count₀ k₀ last₀ number₀ rows sets count k last number =

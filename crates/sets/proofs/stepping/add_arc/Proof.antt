@@ -1,4 +1,5 @@
--- Where the set holds the arc's source, its bit is spread over its symbols; else nothing is added.
+-- `stepping::add_arc` meets its contract: where the set holds the arc's source, its bit is spread over its symbols; else nothing is added.
+-- Assumes nothing.
 use Rattle.book.proofs.Bits.{worth}
 use Rattle.sets.proofs.Sweep.{held, not-held}
 use Rattle.sets.proofs.Rows.{add-held, add-free}

@@ -1,4 +1,4 @@
--- Either side by the flag.
+-- `stepping::close` meets its contract by the flag: the left starts are added, or the right accepts and what the rules then give. Assumes nothing.
 use Rattle.sets.proofs.Rows.{close-right, close-left}
 use borrow.Author.Needs.{needs}
 use Rattle.sets.proofs.stepping.close.Statement.{statement}

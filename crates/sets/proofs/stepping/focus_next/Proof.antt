@@ -1,4 +1,4 @@
--- The step forwards, cut to the right set, is the next focus set.
+-- `stepping::focus_next` meets its contract: the step forwards, cut to the right set, is the next focus set. Assumes nothing.
 use Prim.Native.Nat.{ℕ}
 use mathlib.Core.Path.{ap, _∙_}
 use lib.Bits.{bitAnd}

@@ -1,5 +1,5 @@
--- What is out and the step of what is left make the step of the set, by `Stepping`; each turn takes the lowest state away, and its rule is
--- read from its record on unless that was done for a lower state.
+-- `stepping::focus_step` meets its contract: what is out and the step of what is left make the step of the set, by `Stepping`; each turn
+-- takes the lowest state away, and its rule is read from its record on unless that was done for a lower state. Assumes nothing.
 use mathlib.Core.Path.{_∙_}
 use native.Mathlib.Omega.{arith}
 use borrow.Author.Needs.{needs}

@@ -1,4 +1,4 @@
--- After i turns what is out is what the first i rules give.
+-- `stepping::gather` meets its contract: after i turns what is out is what the first i rules give. Assumes nothing.
 use mathlib.Core.Path.{_≡_, refl, ap, ap₂, _∙_}
 use Prim.Native.Nat.{ℕ, _+_, _-_, _≤_}
 use native.Mathlib.Omega.{arith}

@@ -1,4 +1,5 @@
--- The bit of the arc's first state, put out where the symbol is below or above the arc's, and moved to the second.
+-- `stepping::hop_of` meets its contract: the bit of the arc's first state, put out where the symbol is below or above the arc's, and moved
+-- to the second. Assumes nothing.
 use mathlib.Core.Path.{refl, _∙_}
 use mathlib.Core.Logic.{⊎-elim}
 use borrow.Author.Tests.{le-leb, lt-leb}

@@ -1,4 +1,4 @@
--- The two arms are the two cases of the test.
+-- `stepping::joins` meets its contract: the two arms are the two cases of the test. Assumes nothing.
 use borrow.Author.Tests.{eq-eqb, ne-eqb}
 use Rattle.sets.proofs.stepping.joins.Statement.{statement}
 use Rattle.sets.proofs.stepping.joins.Tie as tie

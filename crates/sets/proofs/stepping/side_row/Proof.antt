@@ -1,4 +1,4 @@
--- Either direction by the flag.
+-- `stepping::side_row` meets its contract: either direction by the flag. Assumes nothing.
 use mathlib.Core.Path.{refl}
 use Rattle.sets.specs.Stepping.{isEnd}
 use Rattle.sets.proofs.Rows.{row-right, row-left}

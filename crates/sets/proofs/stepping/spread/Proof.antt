@@ -1,4 +1,4 @@
--- What is done and what is left of the symbols make the whole.
+-- `stepping::spread` meets its contract: what is done and what is left of the symbols make the whole. Assumes nothing.
 use Prim.Native.Nat.{suc, _-_}
 use native.Mathlib.Omega.{arith}
 use Rattle.sets.proofs.Rows.{Spreading, spread-start, spread-turn, spread-end}

@@ -1,5 +1,5 @@
--- By `SteppingRow`, as in `focus_step` but on all symbols: each turn takes the lowest state away, and its rule is read from its record on unless
--- that was done for a lower state.
+-- `stepping::step_row` meets its contract by `SteppingRow`, as in `focus_step` but on all symbols: each turn takes the lowest state away,
+-- and its rule is read from its record on unless that was done for a lower state. Assumes nothing.
 use native.Mathlib.Omega.{arith}
 use borrow.Author.Needs.{needs}
 use lib.Count.{trailingZeros}

@@ -1,5 +1,6 @@
--- The loop goes over the records after the state's own to the end of its rule, by `Sweeping`: an arc's record adds its hop, a state's
--- moves the number on, the next rule or the book's end ends the rule, and there is no other record.
+-- `stepping::sweep` meets its contract: the loop goes over the records after the state's own to the end of its rule, by `Sweeping`; an arc's
+-- record adds its hop, a state's moves the number on, the next rule or the book's end ends the rule, and there is no other record. Assumes
+-- nothing.
 use Prim.Native.Nat.{_-_}
 use mathlib.Core.Path.{ap, sym, _∙_}
 use native.Mathlib.Omega.{arith}

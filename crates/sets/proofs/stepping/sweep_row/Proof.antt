@@ -1,4 +1,5 @@
--- The loop of `sweep`, on all symbols and in either direction: by `SweepingRow`, an arc's record adds its hop on each symbol.
+-- `stepping::sweep_row` meets its contract: the loop of `sweep`, on all symbols and in either direction; by `SweepingRow` an arc's record
+-- adds its hop on each symbol. Assumes nothing.
 use Prim.Native.Nat.{_-_}
 use native.Mathlib.Omega.{arith}
 use lib.ListN.{length}

@@ -1,4 +1,4 @@
--- Each part is lent and comes back all 0; what lies past it stays.
+-- `workspace::clear` meets its contract: each part is lent and comes back all 0; what lies past it stays. Assumes nothing.
 use Prim.Native.Nat.{ℕ}
 use mathlib.Core.Path.{ap, _∙_}
 use mathlib.Core.List.{List, [], _++_}

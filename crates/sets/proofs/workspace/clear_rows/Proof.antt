@@ -1,4 +1,4 @@
--- What is passed is 0, and the rest is as it was.
+-- `workspace::clear_rows` meets its contract: what is passed is 0, and the rest is as it was. Assumes nothing.
 use Prim.Native.Nat.{_-_}
 use native.Mathlib.Omega.{arith}
 use lib.ListN.{length}

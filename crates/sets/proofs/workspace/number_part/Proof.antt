@@ -1,4 +1,5 @@
--- The lent parts come back with the side in them; what lies before and after stays.
+-- `workspace::number_part` meets its contract: the lent parts come back with the side in them; what lies before and after stays. Assumes
+-- nothing.
 use Rattle.sets.proofs.Parts.{placed-at, part-len}
 use borrow.Author.Needs.{needs}
 use Rattle.sets.proofs.workspace.number_part.Statement.{statement}

@@ -1,4 +1,5 @@
--- Cleared rows and sets are what the numbering asks for, whatever stood there before.
+-- `workspace::number_side` meets its contract: cleared rows and sets are what the numbering asks for, whatever stood there before. Assumes
+-- nothing.
 use Prim.Native.Nat.{ℕ}
 use mathlib.Core.List.{[]}
 use mathlib.Core.Path.{ap, _∙_}
