@@ -3,7 +3,7 @@ use Prim.Native.Nat.{ℕ}
 use mathlib.Core.List.{List, [], _∷_, _++_, map}
 use mathlib.Core.Path.{_≡_, refl}
 use lib.ListN.{take, set}
-use Rattle.book.specs.Format.{recordSize, symbolFits, symbolsFit, ruleReply, stateReply, given, arcReply, endReply, kindReply, recordReply}
+use Rattle.book.specs.Format.{symbolCount, recordSize, symbolFits, symbolsFit, ruleReply, stateReply, given, arcReply, endReply, kindReply, recordReply}
 use Rattle.book.specs.Reading.{withRecord, readFrom, readBook, checkDef}
 use Rattle.book.specs.House.{house}
 use Rattle.book.specs.declared.Checked.{Checked}
@@ -51,15 +51,15 @@ rows =
     refusal (rule ++ (times 64 (state 0 3) ++ state 3 0)) 3 202 ∷
     -- 4: state, arc or end before any rule; it comes before 5 and 8
     refusal (state 3 4) 4 0 ∷
-    refusal (arc 0 0 16 0) 4 0 ∷
+    refusal (arc 0 0 symbolCount 0) 4 0 ∷
     refusal (end ++ end) 4 0 ∷
     -- 5: a length above 8, a symbol above 15, an unused symbol that is not 0; part, flags; highest, lowest above highest; it comes before 6
     refusal (set rule 1 9) 5 0 ∷
-    refusal (set rule 2 16) 5 0 ∷
+    refusal (set rule 2 symbolCount) 5 0 ∷
     refusal (set rule 3 1) 5 0 ∷
     refusal (rule ++ state 3 0) 5 10 ∷
     refusal (rule ++ state 1 4) 5 10 ∷
-    refusal (rule ++ arc 9 0 16 9) 5 10 ∷
+    refusal (rule ++ arc 9 0 symbolCount 9) 5 10 ∷
     refusal (rule ++ arc 9 2 1 9) 5 10 ∷
     -- 6: a state not yet given, one of an earlier rule, one above all numbers, two parts
     refusal (rule ++ arc 0 0 15 0) 6 10 ∷

@@ -1,7 +1,7 @@
 -- The house book, built by the definition: two left sets and fourteen right sets, its first rows, and what stands before and past the
 -- parts of a workspace that held 255 everywhere; and a set workspace that is too short by one.
 use Prim.Native.Nat.{ℕ, _+_, _-_, _*_}
-use mathlib.Core.List.{List, [], _∷_}
+use mathlib.Core.List.{List, [], _∷_, _++_}
 use mathlib.Core.Path.{_≡_, refl}
 use lib.ListN.{take, drop, replicate}
 use Rattle.book.specs.Format.{symbolCount, recordSize, symbolFits, symbolsFit, ruleReply, stateReply, given, arcReply, endReply, kindReply, recordReply}
@@ -25,13 +25,14 @@ shown x =
     drop setWords (x .sets) ∷
     []
 
+-- a row: its first next numbers, and 0 on the later symbols
+abbrev row : List ℕ → List ℕ
+row = pad symbolCount
+
 pub house-built : shown (buildDef house (replicate (rowBytes + 2) 255) (replicate (setWords + 1) 255)) ≡
     (0 ∷ 0 ∷ 2 ∷ 14 ∷ []) ∷
-    (0 ∷ 1 ∷ 0 ∷ 0 ∷ 0 ∷ 0 ∷ 0 ∷ 0 ∷ 0 ∷ 0 ∷ 0 ∷ 0 ∷ 0 ∷ 0 ∷ 0 ∷ 0 ∷
-    0 ∷ 1 ∷ 0 ∷ 0 ∷ 0 ∷ 0 ∷ 0 ∷ 0 ∷ 0 ∷ 0 ∷ 0 ∷ 0 ∷ 0 ∷ 0 ∷ 0 ∷ 0 ∷
-    0 ∷ 0 ∷ 0 ∷ 0 ∷ 0 ∷ 0 ∷ 0 ∷ 0 ∷ 0 ∷ 0 ∷ 0 ∷ 0 ∷ 0 ∷ 0 ∷ 0 ∷ 0 ∷ []) ∷
-    (1 ∷ 0 ∷ 0 ∷ 0 ∷ 2 ∷ 3 ∷ 0 ∷ 0 ∷ 0 ∷ 0 ∷ 0 ∷ 0 ∷ 0 ∷ 0 ∷ 0 ∷ 0 ∷
-    4 ∷ 0 ∷ 0 ∷ 0 ∷ 2 ∷ 3 ∷ 0 ∷ 0 ∷ 0 ∷ 0 ∷ 0 ∷ 0 ∷ 0 ∷ 0 ∷ 0 ∷ 0 ∷ []) ∷
+    (row (0 ∷ 1 ∷ []) ++ (row (0 ∷ 1 ∷ []) ++ row [])) ∷
+    (row (1 ∷ 0 ∷ 0 ∷ 0 ∷ 2 ∷ 3 ∷ []) ++ row (4 ∷ 0 ∷ 0 ∷ 0 ∷ 2 ∷ 3 ∷ [])) ∷
     (4161 ∷ 4163 ∷ 0 ∷ []) ∷
     (264240 ∷ 395312 ∷ 264248 ∷ 265776 ∷ 493616 ∷ 264244 ∷ 264504 ∷ 280632 ∷ 264372 ∷ 264496 ∷ 272436 ∷ 280624 ∷ 264368 ∷ 272432 ∷ 0 ∷ []) ∷
     (255 ∷ 255 ∷ []) ∷

@@ -4,7 +4,7 @@ use mathlib.Core.Path.{_∙_, sym}
 use borrow.Author.Needs.{needs}
 use borrow.Author.Tests.{eq-eqb, ne-eqb, le-ltb, lt-ltb, le-leb, lt-leb}
 use native.Mathlib.Omega.{arith}
-use Rattle.book.specs.Format.{given, arcReply}
+use Rattle.book.specs.Format.{symbolCount, given, arcReply}
 use Rattle.book.proofs.Laws.{given-below}
 use Rattle.book.proofs.arc_reply.Statement.{statement}
 use Rattle.book.proofs.arc_reply.Tie as tie
@@ -48,11 +48,11 @@ unfolding arcReply
 returns-5 c =
     let d = c .before .before .before .before .before .before .before in
     let a = d .before .before .before .before .args in
-    let h : a .high < 16 = omega arith in
+    let h : a .high < symbolCount = omega arith in
     simp (
       ne-eqb _ _ (d .before .before .before .if1 .left),
       lt-leb _ _ (d .before .before .if2 .left),
-      lt-leb 16 _ h,
+      lt-leb symbolCount _ h,
       le-ltb _ _ (d .if4 .left),
       sym (c .before .before .before .before .before .before .given .ensures) ∙ c .before .before .before .before .before .if5 .taken,
       sym (c .before .before .before .before .given2 .ensures) ∙ c .before .before .before .if6 .taken,
@@ -64,11 +64,11 @@ unfolding arcReply
 returns-6 c =
     let d = c .before .before .before .before .before .before .before in
     let a = d .before .before .before .before .args in
-    let h : a .high < 16 = omega arith in
+    let h : a .high < symbolCount = omega arith in
     simp (
       ne-eqb _ _ (d .before .before .before .if1 .left),
       lt-leb _ _ (d .before .before .if2 .left),
-      lt-leb 16 _ h,
+      lt-leb symbolCount _ h,
       le-ltb _ _ (d .if4 .left),
       sym (c .before .before .before .before .before .before .given .ensures) ∙ c .before .before .before .before .before .if5 .taken,
       sym (c .before .before .before .before .given2 .ensures) ∙ c .before .before .before .if6 .taken,
@@ -80,11 +80,11 @@ unfolding arcReply
 returns-7 c =
     let d = c .before .before .before .before in
     let a = d .before .before .before .before .args in
-    let h : a .high < 16 = omega arith in
+    let h : a .high < symbolCount = omega arith in
     simp (
       ne-eqb _ _ (d .before .before .before .if1 .left),
       lt-leb _ _ (d .before .before .if2 .left),
-      lt-leb 16 _ h,
+      lt-leb symbolCount _ h,
       le-ltb _ _ (d .if4 .left),
       sym (c .before .before .before .given .ensures) ∙ c .before .before .if5 .taken,
       sym (c .before .given2 .ensures) ∙ c .if6 .left,
@@ -95,11 +95,11 @@ unfolding arcReply
 returns-8 c =
     let d = c .before .before in
     let a = d .before .before .before .before .args in
-    let h : a .high < 16 = omega arith in
+    let h : a .high < symbolCount = omega arith in
     simp (
       ne-eqb _ _ (d .before .before .before .if1 .left),
       lt-leb _ _ (d .before .before .if2 .left),
-      lt-leb 16 _ h,
+      lt-leb symbolCount _ h,
       le-ltb _ _ (d .if4 .left),
       sym (c .before .given .ensures) ∙ c .if5 .left,
     )
