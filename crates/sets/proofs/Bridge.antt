@@ -7,14 +7,14 @@ use mathlib.Core.Logic.{_↔_}
 use native.Mathlib.Omega.{arith}
 use native.Mathlib.Decide.{decLt}
 use lib.Dec.{T, eqb, leb, eqb→eq, eqb-refl}
-use lib.ListN.{length, List·getD-eq-default}
+use lib.ListN.{length}
 use Rattle.book.specs.Format.{leftPart, focusPart, rightPart, startFlag, acceptFlag}
 use Rattle.book.specs.Reading.{Arc, Book}
-use Rattle.book.specs.Language.{upFrom, opens, leads, noState, stateOf, flagged, isOf, starts, ends, isStart, isAccept, someState, accepts, someEnd, someFront}
+use Rattle.book.specs.Language.{upFrom, opens, leads, stateOf, flagged, isOf, starts, ends, isStart, isAccept, someState, accepts, someEnd, someFront}
 use Rattle.book.specs.Sound.{Sound}
 use Rattle.book.proofs.Sound.{arc-fits}
-use Rattle.book.proofs.Masking.{no-state}
 use Rattle.book.proofs.Tests.{and-both, and-left, and-right, any-in, any-out, up-in, end-in, end-out, front-in, front-out}
+use Rattle.sets.proofs.Masks.{none-of}
 use Rattle.sets.proofs.Runs.{stop, step, Machine, Stays, Start, Accept, Run, Accepts, LeftHolds, RightHolds, Applies}
 
 -- an arc of the book from p to q that is open to a
@@ -116,9 +116,7 @@ module _ (b : Book) where
     where
       go : Dec (s < length (b .states)) → s < length (b .states)
       go (yes h) = h
-      go (no h) =
-          let g : length (b .states) ≤ s = omega arith in
-          absurd (subst T (ap (isOf part flag) (List·getD-eq-default (b .states) noState g) ∙ no-state part flag) t)
+      go (no h) = let g : length (b .states) ≤ s = omega arith in absurd (subst T (none-of b part flag s g) t)
 
   pub start-known : {r part s : ℕ} → Start (machine b) r part s → s < length (b .states)
   start-known {part = part} {s = s} h = known part startFlag s (starts-in h)

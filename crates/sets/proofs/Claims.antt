@@ -1,7 +1,7 @@
 -- What BUILD's reply and counts say of the book: "The count for a side is the number of different sets over all tapes of any length"; 13 and
 -- 14 are given exactly when there are more than 256. Assumes nothing.
 use Prim.Native.Nat.{ℕ, _≤_, _<_}
-use mathlib.Core.Path.{_≡_, sym, ap, _∙_}
+use mathlib.Core.Path.{_≡_, sym, ap, subst}
 use mathlib.Core.Logic.{_↔_, _⊎_, inl, inr}
 use mathlib.Core.List.{List}
 use native.Mathlib.Omega.{arith}
@@ -13,7 +13,7 @@ use Rattle.sets.specs.Workspace.{rowBytes, setWords, leftTable, rightTab
 use Rattle.sets.specs.Tables.{leftCount, rightCount}
 use Rattle.sets.specs.Counting.{leftOver, rightOver, Exactly, MoreThan}
 use Rattle.sets.proofs.Counts.{front, end, law-exactly, law-many, law-few}
-use Rattle.sets.proofs.WaysOut.{Buildable, Way, refused, short, many-left, many-right, built, way}
+use Rattle.sets.proofs.WaysOut.{Buildable, Way, refused, short, many-left, many-right, built, way, reply, way-accepted}
 
 -- more than 256 left sets, right sets, by the numbering and over all tapes
 pub left-many : (book : List ℕ) → (mostSets < leftCount book) ↔ MoreThan (leftOver (bookOf book)) mostSets
@@ -33,25 +33,19 @@ pub right-exactly : (book : List ℕ) → rightCount book ≤ mostSets → Exact
 unfolding rightCount rightTable
 right-exactly book few = law-exactly _ _ _ (end _ _) few
 
-abbrev reply : AfterBuild → ℕ
-reply x = x .answer .reply
-
 -- the counts of an accepted book
 module _ (book R S : List ℕ) where
-  counts : (x : AfterBuild) → Way book R S x → reply x ≡ 0
-      → (x .answer .left ≡ leftCount book) × (x .answer .right ≡ rightCount book) × (leftCount book ≤ mostSets) × (rightCount book ≤ mostSets)
-  unfolding leftCount rightCount
-  counts x (refused h e) z = absurd (h (sym (ap reply e) ∙ z))
-  counts x (short h s e) z = absurd (let q = ap reply e in omega arith)
-  counts x (many-left o l e) z = absurd (let q = ap reply e in omega arith)
-  counts x (many-right o l r e) z = absurd (let q = ap reply e in omega arith)
-  counts x (built o l r e) z = (ap (λ (y : AfterBuild). y .answer .left) e, ap (λ (y : AfterBuild). y .answer .right) e, l, r)
-
   pub left-count : reply (buildDef book R S) ≡ 0 → Exactly (leftOver (bookOf book)) (buildDef book R S .answer .left)
-  left-count z = let c = counts (buildDef book R S) (way book R S) z in rw (c .0) (left-exactly book (c .2))
+  unfolding leftCount
+  left-count z =
+      let w = way-accepted book R S _ (way book R S) z in
+      subst (Exactly (leftOver (bookOf book))) (sym (ap (λ (y : AfterBuild). y .answer .left) (w .2))) (left-exactly book (w .0))
 
   pub right-count : reply (buildDef book R S) ≡ 0 → Exactly (rightOver (bookOf book)) (buildDef book R S .answer .right)
-  right-count z = let c = counts (buildDef book R S) (way book R S) z in rw (c .1) (right-exactly book (c .3))
+  unfolding rightCount
+  right-count z =
+      let w = way-accepted book R S _ (way book R S) z in
+      subst (Exactly (rightOver (bookOf book))) (sym (ap (λ (y : AfterBuild). y .answer .right) (w .2))) (right-exactly book (w .1))
 
 -- the reply of an accepted book in a workspace that is long enough, by the two counts
 data CountReply (book : List ℕ) (r : ℕ) : Type 0 where

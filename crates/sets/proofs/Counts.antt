@@ -12,9 +12,9 @@ use lib.Seq.{getD-at}
 use borrow.Author.Tests.{eq-eqb, ne-eqb}
 use Rattle.book.specs.Format.{symbolCount}
 use Rattle.sets.specs.Sets.{after, before}
-use Rattle.sets.specs.Numbering.{mostSets, pairs, idx, Table, next, run, all}
+use Rattle.sets.specs.Numbering.{mostSets, pairs, idx, Table, entry, next, run, all}
 use Rattle.sets.specs.Tables.{Tape}
-use Rattle.sets.specs.Counting.{entry, Reached, Distinct, Exactly, MoreThan}
+use Rattle.sets.specs.Counting.{Reached, Distinct, Exactly, MoreThan}
 use Rattle.sets.proofs.Idx.{by-eq, idx-same, idx-other, idx-at, idx-append, idx-snoc, idx-in}
 use Rattle.sets.proofs.Turns.{Turned, idle, old, new, ran, grows}
 

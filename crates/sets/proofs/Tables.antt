@@ -17,7 +17,7 @@ use Rattle.sets.specs.declared.Built.{Built}
 use Rattle.sets.proofs.Pad.{length-pad, getD-pad-all}
 use Rattle.sets.proofs.Idx.{idx-distinct}
 use Rattle.sets.proofs.Counts.{law-distinct, law-width, Half, half, walk-front, walk-end}
-use Rattle.sets.proofs.WaysOut.{Way, refused, short, many-left, many-right, built, way}
+use Rattle.sets.proofs.WaysOut.{Way, refused, short, many-left, many-right, built, way, way-accepted}
 
 -- two parts of n elements, each with zeros after what it holds, and what stands past them
 module _ (n : ℕ) (P Q T : List ℕ) (hp : length P ≤ n) (hq : length Q ≤ n) where
@@ -76,14 +76,7 @@ module _ (book R S : List ℕ) (few : leftCount book ≤ mostSets) (few′ : rig
 
 -- the door between the builder and its readers
 pub tables : (book R S : List ℕ) → buildDef book R S .answer .reply ≡ 0 → Tables book (buildDef book R S .rows) (buildDef book R S .sets)
-tables book R S z = by (buildDef book R S) (way book R S) z
-  where
-    by : (x : AfterBuild) → Way book R S x → x .answer .reply ≡ 0 → Tables book (x .rows) (x .sets)
-    by x (refused h e) z = absurd (h (sym (ap (λ (y : AfterBuild). y .answer .reply) e) ∙ z))
-    by x (short h s e) z = absurd (let q = ap (λ (y : AfterBuild). y .answer .reply) e in omega arith)
-    by x (many-left o l e) z = absurd (let q = ap (λ (y : AfterBuild). y .answer .reply) e in omega arith)
-    by x (many-right o l r e) z = absurd (let q = ap (λ (y : AfterBuild). y .answer .reply) e in omega arith)
-    by x (built o l r e) z = filled-tables book R S l r x e
+tables book R S z = let w = way-accepted book R S _ (way book R S) z in filled-tables book R S (w .0) (w .1) _ (w .2)
 
 -- the same from the contract of `build`
 pub built-tables : (book R S : List ℕ) (r : Built) (R′ S′ : List ℕ) → buildLeaves r R′ S′ ≡ buildDef book R S → r .reply ≡ 0 → Tables book R′ S′
@@ -106,14 +99,11 @@ module _ (book rows sets : List ℕ) (t : Tables book rows sets) where
 
 -- the numbers that a walk gives are those of the numbering: the right set of number k stands where the table has it
 module _ (book R S : List ℕ) (z : buildDef book R S .answer .reply ≡ 0) where
-  right-place : (x : AfterBuild) → Way book R S x → x .answer .reply ≡ 0
-      → (k : ℕ) → k < mostSets → rightSet (x .sets) k ≡ getD (rightTable (bookOf book) .sets) k 0
+  right-place : (k : ℕ) → k < mostSets → rightSet (buildDef book R S .sets) k ≡ getD (rightTable (bookOf book) .sets) k 0
   unfolding leftCount rightCount
-  right-place x (refused h e) z k l = absurd (h (sym (ap (λ (y : AfterBuild). y .answer .reply) e) ∙ z))
-  right-place x (short h s e) z k l = absurd (let q = ap (λ (y : AfterBuild). y .answer .reply) e in omega arith)
-  right-place x (many-left o g e) z k l = absurd (let q = ap (λ (y : AfterBuild). y .answer .reply) e in omega arith)
-  right-place x (many-right o g r e) z k l = absurd (let q = ap (λ (y : AfterBuild). y .answer .reply) e in omega arith)
-  right-place x (built o g r e) z k l = ap (λ (y : AfterBuild). rightSet (y .sets) k) e ∙ part-two mostSets _ _ _ g r k (mostSets + k) l refl
+  right-place k l =
+      let w = way-accepted book R S _ (way book R S) z in
+      ap (λ (y : AfterBuild). rightSet (y .sets) k) (w .2) ∙ part-two mostSets _ _ _ (w .0) (w .1) k (mostSets + k) l refl
 
   pub right-number : (w : List ℕ) → Tape w
       → before 0 (rightEntry (buildDef book R S .rows)) w ≡ idx (rightTable (bookOf book) .sets) (rightOver (bookOf book) w)
@@ -123,7 +113,7 @@ module _ (book R S : List ℕ) (z : buildDef book R S .answer .reply ≡ 0) wher
       let p = right-walk book _ _ b w t in
       let k = before 0 (rightEntry (buildDef book R S .rows)) w in
       sym (idx-distinct (rightTable (bookOf book) .sets) k (law-distinct _ _) (p .0))
-      ∙ ap (idx (rightTable (bookOf book) .sets)) (sym (right-place (buildDef book R S) (way book R S) z k (omega (arith, b .right-few, p .0))) ∙ p .1)
+      ∙ ap (idx (rightTable (bookOf book) .sets)) (sym (right-place k (omega (arith, b .right-few, p .0))) ∙ p .1)
 
 -- ---- BUILD keeps the length of either piece of the workspace, for any book, rows and sets
 

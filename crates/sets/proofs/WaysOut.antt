@@ -140,3 +140,15 @@ module _ (book R S : List ℕ) where
       by : Dec (checkDef book .reply ≡ 0) → Way book R S (buildDef book R S)
       by (yes z) = checked-way z (decLt _ _) (decLt _ _)
       by (no h) = refused h (sym (way-refused book R S _ h refl))
+
+abbrev pub reply : AfterBuild → ℕ
+reply x = x .answer .reply
+
+-- with reply 0 it is the last of them
+pub way-accepted : (book R S : List ℕ) (x : AfterBuild) → Way book R S x → reply x ≡ 0
+    → (leftCount book ≤ mostSets) × (rightCount book ≤ mostSets) × (x ≡ filled (leftTable (bookOf book)) (rightTable (bookOf book)) R S)
+way-accepted book R S x (refused h e) z = absurd (h (sym (ap reply e) ∙ z))
+way-accepted book R S x (short h s e) z = absurd (let q = ap reply e in omega arith)
+way-accepted book R S x (many-left o l e) z = absurd (let q = ap reply e in omega arith)
+way-accepted book R S x (many-right o l r e) z = absurd (let q = ap reply e in omega arith)
+way-accepted book R S x (built o l r e) z = (l, r, e)

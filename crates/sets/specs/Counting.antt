@@ -1,10 +1,9 @@
 -- What the numbering of a side means: the different sets over all tapes. `over` gives the set over a tape: read from its front for the
 -- left sets, from its end for the right ones.
-use Prim.Native.Nat.{ℕ, _+_, _*_, _<_}
+use Prim.Native.Nat.{ℕ, _<_}
 use mathlib.Core.Path.{_≡_}
 use mathlib.Core.List.{List}
 use lib.ListN.{length, getD}
-use Rattle.book.specs.Format.{symbolCount}
 use Rattle.book.specs.Reading.{Book}
 use Rattle.sets.specs.Sets.{leftFirst, leftNext, rightLast, rightPrev, after, before}
 use Rattle.sets.specs.Tables.{Tape}
@@ -15,10 +14,6 @@ leftOver b = after (leftNext b) (leftFirst b)
 
 abbrev pub rightOver : Book → List ℕ → ℕ
 rightOver b = before (rightLast b) (rightPrev b)
-
--- entry a of row k; walking the rows along a tape is `after (entry R) 0`, from its end `before 0 (entry R)`
-abbrev pub entry : List ℕ → ℕ → ℕ → ℕ
-entry R k a = getD R (symbolCount * k + a) 0
 
 -- x is the set over some tape
 pub record Reached (over : List ℕ → ℕ) (x : ℕ) : Type 0 where

@@ -26,6 +26,10 @@ pub record Table : Type 0 where
   pub sets : List ℕ
   pub rows : List ℕ
 
+-- entry a of row k; walking the rows along a tape is `after (entry rows) 0`, from its end `before 0 (entry rows)`
+abbrev pub entry : List ℕ → ℕ → ℕ → ℕ
+entry rows k a = getD rows (symbolCount * k + a) 0
+
 -- x has the number n: the row grows by n, and the sets by x where n is a new number
 unfoldable pub enter : ℕ → ℕ → Table → Table
 enter n x t = record { sets = elim (eqb n (length (t .sets))) [ true ↦ t .sets ++ (x ∷ []) | false ↦ t .sets ]; rows = t .rows ++ (n ∷ []) }

@@ -6,7 +6,7 @@ use lib.ListN.{length, getD}
 use Rattle.book.specs.Format.{symbolCount}
 use Rattle.book.specs.Reading.{bookOf}
 use Rattle.sets.specs.Sets.{leftFirst, leftNext, rightLast, rightPrev}
-use Rattle.sets.specs.Numbering.{mostSets, pairs}
+use Rattle.sets.specs.Numbering.{mostSets, pairs, entry}
 use Rattle.sets.specs.Workspace.{rowBytes, setWords, leftTable, rightTable}
 
 -- "BUILD the two set counts"
@@ -18,7 +18,7 @@ rightCount book = length (rightTable (bookOf book) .sets)
 
 -- "left rows, then right rows: 256 rows of 16 next numbers a side": entry a of row k
 abbrev pub leftEntry : List ℕ → ℕ → ℕ → ℕ
-leftEntry rows k a = getD rows (symbolCount * k + a) 0
+leftEntry rows k a = entry rows k a
 
 abbrev pub rightEntry : List ℕ → ℕ → ℕ → ℕ
 rightEntry rows k a = getD rows (pairs + k * symbolCount + a) 0
