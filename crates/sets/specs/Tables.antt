@@ -35,15 +35,22 @@ abbrev pub Tape : List ℕ → Type 0
 Tape [] = Unit {0}
 Tape (a ∷ w) = (a < symbolCount) × Tape w
 
+-- each field for the left and for the right side
 pub record Tables (book rows sets : List ℕ) : Type 0 where
+  -- both pieces of the workspace are whole: rows and sets are read without a test of their lengths
   pub rows-room : rowBytes ≤ length rows
   pub sets-room : setWords ≤ length sets
+  -- at most 256 sets: a number is a byte, as the rows and the scratch hold it
   pub left-few : leftCount book ≤ mostSets
+  -- there is a set of number 0, and it is that of the empty tape: a walk begins with it
   pub left-some : 0 < leftCount book
   pub left-first : leftSet sets 0 ≡ leftFirst (bookOf book)
+  -- an entry of a numbered set's row is a number, so a walk stays among the numbered sets; and it is the number of the next set
   pub left-below : (k a : ℕ) → k < leftCount book → a < symbolCount → leftEntry rows k a < leftCount book
   pub left-next : (k a : ℕ) → k < leftCount book → a < symbolCount → leftSet sets (leftEntry rows k a) ≡ leftNext (bookOf book) (leftSet sets k) a
+  -- no set has two numbers: the number that a walk gives is the one of the numbering
   pub left-once : (i j : ℕ) → i < leftCount book → j < leftCount book → leftSet sets i ≡ leftSet sets j → i ≡ j
+  -- the same on the right, where the empty tape's set is the last one and an entry is the number of the set with a symbol put in front
   pub right-few : rightCount book ≤ mostSets
   pub right-some : 0 < rightCount book
   pub right-first : rightSet sets 0 ≡ rightLast (bookOf book)
