@@ -93,12 +93,15 @@ fn rule_hit(book: &[u8], masks: &[u64; MASKS], rules: usize, set: u64, right: u6
     NO_RULE
 }
 
-// What is taken at a free position: where the longest candidate ends, and its lowest rule; the position itself and 0 where there is none.
+// What is taken at a free position: the longest candidate that starts there, by its lowest rule.
 pub struct Taken {
+    // Where it ends, past the position and at most the tape's length; the position itself where nothing is taken, and so they tell the two.
     pub end: usize,
+    // The number of its rule, 0 where nothing is taken: its word is written, and the account judges the other rules by it.
     pub rule: usize,
 }
 
+// The walk from a free position: after each symbol the focus states that can still end well, until none is left or the tape ends.
 pub fn taken_at(
     book: &[u8],
     places: &[u16; book::STATES],
