@@ -8,6 +8,7 @@ use native.Mathlib.Omega.{arith}
 use lib.Dec.{T}
 use lib.ListN.{length}
 use lib.Seq.{slice}
+use Rattle.book.specs.Format.{leftPart, focusPart, rightPart}
 use Rattle.book.specs.Reading.{Book}
 use Rattle.book.specs.Language.{any, upFrom, accepts, rules}
 use Rattle.book.specs.Sound.{Sound}
@@ -21,13 +22,13 @@ use Rattle.stretches.proofs.Last.{last-none, last-split, last-snoc}
 
 module _ (b : Book) (h : Sound b) (t : List ℕ) where
   -- the contexts by the sets, the focus language itself
-  pub candidate-sets : (i j r : ℕ) → candidate (rules b) t i j r ≡ (accepts b r 1 (slice i j t) && meetsAccept b r 0 (leftAt b t i) && meetsStart b r 2 (rightAt b t j))
+  pub candidate-sets : (i j r : ℕ) → candidate (rules b) t i j r ≡ (accepts b r focusPart (slice i j t) && meetsAccept b r leftPart (leftAt b t i) && meetsStart b r rightPart (rightAt b t j))
   unfolding candidate
   candidate-sets i j r = rw (left-holds b h t r i, right-holds b h t r j)
 
   module _ (i : ℕ) where
     -- a stretch is a candidate of r exactly if both tests pass
-    pub candidate-test : (r j : ℕ) → i ≤ j → candidate (rules b) t i j r ≡ (meetsAccept b r 1 (focusAt b t i j) && meetsStart b r 2 (rightAt b t j))
+    pub candidate-test : (r j : ℕ) → i ≤ j → candidate (rules b) t i j r ≡ (meetsAccept b r focusPart (focusAt b t i j) && meetsStart b r rightPart (rightAt b t j))
     unfolding candidate
     candidate-test r j g = focus-test b h t i j r g
 
@@ -67,7 +68,7 @@ module _ (b : Book) (h : Sound b) (t : List ℕ) where
 
     -- what the scan tests at j, rule after rule
     abbrev pub test : ℕ → ℕ → Bool
-    test j r = meetsAccept b r 1 (focusAt b t i j) && meetsStart b r 2 (rightAt b t j)
+    test j r = meetsAccept b r focusPart (focusAt b t i j) && meetsStart b r rightPart (rightAt b t j)
 
     pub some-test : (j : ℕ) → i ≤ j → someRule (rules b) t i j ≡ any (test j) (rulesOf (rules b))
     some-test j g = ap (λ (p : ℕ → Bool). any p (rulesOf (rules b))) (fun-ext (λ r. candidate-test r j g))

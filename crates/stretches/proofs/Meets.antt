@@ -11,7 +11,7 @@ use borrow.Author.Tests.{eq-eqb, ne-eqb}
 use lib.Dec.{eqb}
 use lib.Bits.{bitAnd, bitOr}
 use lib.ListN.{length, getD}
-use Rattle.book.specs.Format.{mostRules}
+use Rattle.book.specs.Format.{mostRules, focusPart, rightPart}
 use Rattle.book.specs.Reading.{Book}
 use Rattle.book.specs.Language.{upFrom}
 use Rattle.sets.specs.Focus.{meetsAccept, meetsStart, focusFirst, openedBy, openedBelow}
@@ -31,11 +31,11 @@ module _ (b : Book) (n : ℕ) (masks : List ℕ) (m : Tests b n masks) where
     low : r < mostRules
     low = omega (arith, few)
 
-    accepting : meetsAccept b r 1 X ≡ not (eqb (bitAnd X (getD masks (focusAccepts r) 0)) 0)
-    accepting = accept-mask b (m .sound) r 1 X ∙ ap (λ (y : ℕ). not (eqb (bitAnd X y) 0)) (sym (m .focus-accepts r low))
+    accepting : meetsAccept b r focusPart X ≡ not (eqb (bitAnd X (getD masks (focusAccepts r) 0)) 0)
+    accepting = accept-mask b (m .sound) r focusPart X ∙ ap (λ (y : ℕ). not (eqb (bitAnd X y) 0)) (sym (m .focus-accepts r low))
 
-    starting : meetsStart b r 2 R ≡ not (eqb (bitAnd R (getD masks (rightStarts r) 0)) 0)
-    starting = start-mask b (m .sound) r 2 R ∙ ap (λ (y : ℕ). not (eqb (bitAnd R y) 0)) (sym (m .right-starts r low))
+    starting : meetsStart b r rightPart R ≡ not (eqb (bitAnd R (getD masks (rightStarts r) 0)) 0)
+    starting = start-mask b (m .sound) r rightPart R ∙ ap (λ (y : ℕ). not (eqb (bitAnd R y) 0)) (sym (m .right-starts r low))
 
     pub miss-focus : bitAnd X (getD masks (focusAccepts r) 0) ≡ 0 → false ≡ hits b X R r
     unfolding hits
@@ -43,7 +43,7 @@ module _ (b : Book) (n : ℕ) (masks : List ℕ) (m : Tests b n masks) where
 
     pub miss-right : bitAnd R (getD masks (rightStarts r) 0) ≡ 0 → false ≡ hits b X R r
     unfolding hits
-    miss-right e = rw (starting, eq-eqb _ _ e) (sym (B.and-false (meetsAccept b r 1 X)))
+    miss-right e = rw (starting, eq-eqb _ _ e) (sym (B.and-false (meetsAccept b r focusPart X)))
 
     pub hit-both : bitAnd X (getD masks (focusAccepts r) 0) ≢ 0 → bitAnd R (getD masks (rightStarts r) 0) ≢ 0 → true ≡ hits b X R r
     unfolding hits
@@ -52,7 +52,7 @@ module _ (b : Book) (n : ℕ) (masks : List ℕ) (m : Tests b n masks) where
   -- no rule at an end: the set holds no focus accept at all
   pub none-hits : (X R : ℕ) → bitAnd X (getD masks allAccepts 0) ≡ 0 → (r : ℕ) → hits b X R r ≡ false
   unfolding hits
-  none-hits X R e r = ap (λ (c : Bool). c && meetsStart b r 2 R) (accept-none b (m .sound) r 1 X (sym (ap (bitAnd X) (m .all-accepts)) ∙ e))
+  none-hits X R e r = ap (λ (c : Bool). c && meetsStart b r rightPart R) (accept-none b (m .sound) r focusPart X (sym (ap (bitAnd X) (m .all-accepts)) ∙ e))
 
   pub miss-all : (X R : ℕ) → bitAnd X (getD masks allAccepts 0) ≡ 0 → noRule ≡ hitRule b X R
   unfolding hitRule

@@ -10,6 +10,7 @@ use native.Mathlib.Decide.{decLt}
 use lib.Dec.{T, eqb, eqb→eq, ltb, ltb→lt, lt→ltb}
 use lib.ListN.{length, take, drop}
 use lib.Seq.{slice, slice-empty}
+use Rattle.book.specs.Format.{focusPart, startFlag, acceptFlag, bothFlags}
 use Rattle.book.specs.Reading.{State, Book, checkDef, bookOf}
 use Rattle.book.specs.Language.{Rules, rules, rulesIn, upFrom, stateOf, flagged, isOf, starts, ends, isStart, isAccept, someState, accepts, leads}
 use Rattle.book.specs.Sound.{StateFits, Sound}
@@ -23,34 +24,34 @@ use Rattle.stretches.proofs.Walks.{longest-low, some-far, test-some}
 pub record NoEmpty (b : Rules) : Type 0 where
   pub none : (r : ℕ) → T (b .focus r []) → ⊥
 
--- flags 1 and 3 start, 2 and 3 accept: both is 3
-both-flags : (f : ℕ) → f ≤ 3 → T (flagged 1 f) → T (flagged 2 f) → f ≡ 3
+-- a state that starts and accepts has both flags
+both-flags : (f : ℕ) → f ≤ bothFlags → T (flagged startFlag f) → T (flagged acceptFlag f) → f ≡ bothFlags
 unfolding flagged
 both-flags zero h s a = absurd s
 both-flags (suc zero) h s a = absurd a
 both-flags (suc (suc zero)) h s a = absurd s
 both-flags (suc (suc (suc n))) h s a = omega arith
 
-focus-one : (st : State) → StateFits st → T (isOf 1 1 st) → T (isOf 1 2 st) → ⊥
+focus-one : (st : State) → StateFits st → T (isOf focusPart startFlag st) → T (isOf focusPart acceptFlag st) → ⊥
 focus-one st f s a =
-    let P = eqb (st .part) 1 in
-    let S = flagged 1 (st .flags) in
-    let A = flagged 2 (st .flags) in
-    f .focus (eqb→eq (st .part) 1 (and-left P S s)) (both-flags (st .flags) (f .flags) (and-right P S s) (and-right P A a))
+    let P = eqb (st .part) focusPart in
+    let S = flagged startFlag (st .flags) in
+    let A = flagged acceptFlag (st .flags) in
+    f .focus (eqb→eq (st .part) focusPart (and-left P S s)) (both-flags (st .flags) (f .flags) (and-right P S s) (and-right P A a))
 
 sound-no-empty : (b : Book) → Sound b → NoEmpty (rules b)
 unfolding accepts isStart isAccept leads
 sound-no-empty b h = record {
   none = λ r x.
-      let p = any-up (λ (p : ℕ). isStart b r 1 p && someState b (λ (q : ℕ). isAccept b r 1 q && leads (b .arcs) p [] q)) 0 (length (b .states)) .0 x in
+      let p = any-up (λ (p : ℕ). isStart b r focusPart p && someState b (λ (q : ℕ). isAccept b r focusPart q && leads (b .arcs) p [] q)) 0 (length (b .states)) .0 x in
       let s = p .0 in
       let R = eqb (stateOf b s .rule) r in
-      let S = and-left (isStart b r 1 s) (someState b (λ (q : ℕ). isAccept b r 1 q && leads (b .arcs) s [] q)) (p .3) in
-      let q = any-up (λ (q : ℕ). isAccept b r 1 q && leads (b .arcs) s [] q) 0 (length (b .states)) .0 (and-right (isStart b r 1 s) (someState b (λ (q : ℕ). isAccept b r 1 q && leads (b .arcs) s [] q)) (p .3)) in
-      let e = eqb→eq s (q .0) (and-right (isAccept b r 1 (q .0)) (leads (b .arcs) s [] (q .0)) (q .3)) in
-      let A = subst (λ (z : ℕ). T (isAccept b r 1 z)) (sym e) (and-left (isAccept b r 1 (q .0)) (leads (b .arcs) s [] (q .0)) (q .3)) in
+      let S = and-left (isStart b r focusPart s) (someState b (λ (q : ℕ). isAccept b r focusPart q && leads (b .arcs) s [] q)) (p .3) in
+      let q = any-up (λ (q : ℕ). isAccept b r focusPart q && leads (b .arcs) s [] q) 0 (length (b .states)) .0 (and-right (isStart b r focusPart s) (someState b (λ (q : ℕ). isAccept b r focusPart q && leads (b .arcs) s [] q)) (p .3)) in
+      let e = eqb→eq s (q .0) (and-right (isAccept b r focusPart (q .0)) (leads (b .arcs) s [] (q .0)) (q .3)) in
+      let A = subst (λ (z : ℕ). T (isAccept b r focusPart z)) (sym e) (and-left (isAccept b r focusPart (q .0)) (leads (b .arcs) s [] (q .0)) (q .3)) in
       let l = p .2 in
-      focus-one (stateOf b s) (h .state s (omega arith)) (and-right R (starts b 1 s) S) (and-right R (ends b 1 s) A);
+      focus-one (stateOf b s) (h .state s (omega arith)) (and-right R (starts b focusPart s) S) (and-right R (ends b focusPart s) A);
 }
 
 pub no-empty : (s : List ℕ) → checkDef s .reply ≡ 0 → NoEmpty (rulesIn s)

@@ -8,6 +8,7 @@ use native.Mathlib.Omega.{arith}
 use native.Mathlib.Numerals.{add-one}
 use lib.Dec.{T}
 use lib.ListN.{length, getD}
+use Rattle.book.specs.Format.{focusPart, rightPart}
 use Rattle.book.specs.Reading.{Book, bookOf}
 use Rattle.book.specs.Language.{rulesIn}
 use Rattle.sets.specs.Sets.{leftAt, rightAt}
@@ -44,7 +45,7 @@ module _ (book tape sets scratch : List ℕ) (seen : RightSets book tape sets sc
       pub pruned-hits : (r : ℕ) → hits (bookOf book) X R r ≡ candidate (rulesIn book) tape i (suc j) r
       unfolding hits
       pruned-hits r = sym (candidate-test (bookOf book) (sound-of book (seen .accepted)) tape i r (suc j) (let l = was .low in omega arith)
-          ∙ (λ x. meetsAccept (bookOf book) r 1 (sym next-set x) && meetsStart (bookOf book) r 2 (sym right-here x)))
+          ∙ (λ x. meetsAccept (bookOf book) r focusPart (sym next-set x) && meetsStart (bookOf book) r rightPart (sym right-here x)))
 
     pub pruned-dead : set ≡ 0 → (r k : ℕ) → j ≤ k → T (candidate (rulesIn book) tape i k r) → ⊥
     pruned-dead z r k h = dead (bookOf book) (sound-of book (seen .accepted)) tape i r j k (was .low) h (sym (was .states) ∙ z)

@@ -9,6 +9,7 @@ use native.Mathlib.Numerals.{add-one}
 use lib.Dec.{T}
 use lib.ListN.{length, getD, take, drop}
 use lib.Seq.{slice, slice-empty}
+use Rattle.book.specs.Format.{focusPart, rightPart}
 use Rattle.book.specs.Reading.{Book, checkDef, bookOf}
 use Rattle.book.specs.Language.{rules, rulesIn, upFrom}
 use Rattle.book.specs.Sound.{Sound}
@@ -63,7 +64,7 @@ module _ (b : Book) (o : Sound b) (t : List ℕ) where
 
     hit-is : hitRule b (focusNext b set (getD t j 0) R) R ≡ firstOf (test b o t i (suc j)) (rulesOf (rules b)) noRule
     unfolding hitRule hits
-    hit-is = λ x. firstOf (λ (r : ℕ). meetsAccept b r 1 (next-set x) && meetsStart b r 2 (e x)) (rulesOf (rules b)) noRule
+    hit-is = λ x. firstOf (λ (r : ℕ). meetsAccept b r focusPart (next-set x) && meetsStart b r rightPart (e x)) (rulesOf (rules b)) noRule
 
     scan-hit : hitRule b (focusNext b set (getD t j 0) R) R ≢ noRule → Scan b t i (suc j) (focusNext b set (getD t j 0) R) (suc j) (hitRule b (focusNext b set (getD t j 0) R) R)
     scan-hit k =
