@@ -10,7 +10,7 @@ use Rattle.stretches.specs.Paper.{Context, start, end, Contexts, C, Afte
 use lib.ListN.{length, length-append}
 
 -- a walk over the candidates K: the positions that no taken stretch has strictly inside, and where the longest candidate at a position ends
-pub record Walk (K : ℕ → ℕ → Type 0) : Type 1 where
+pub record GreedyWalk (K : ℕ → ℕ → Type 0) : Type 1 where
   pub Free : ℕ → Type 0
   pub far : ℕ → ℕ
   pub around : (i : ℕ) → Free i ⊎ ((s : ℕ) × Free s × K s (far s) × (s < i) × (i < far s))
@@ -20,7 +20,7 @@ pub record Walk (K : ℕ → ℕ → Type 0) : Type 1 where
   pub best : (i j : ℕ) → K i j → K i (far i)
   pub decide : (i : ℕ) → Dec (K i (far i))
 
-module _ {K : ℕ → ℕ → Type 0} (W : Walk K) where
+module _ {K : ℕ → ℕ → Type 0} (W : GreedyWalk K) where
   -- i is a taken start
   pub record At (i : ℕ) : Type 0 where
     pub free : W .Free i
@@ -90,7 +90,7 @@ pub record Reads (b : Rules) (t : List ℕ) (K : ℕ → ℕ → Type 0) : Type 
   pub to : (c : Context) → C b t c → K (start c) (end c)
   pub from : (i j : ℕ) → K i j → (c : Context) × C b t c × (start c ≡ i) × (end c ≡ j)
 
-module _ {K : ℕ → ℕ → Type 0} (W : Walk K) (b : Rules) (t : List ℕ) (R : Reads b t K) where
+module _ {K : ℕ → ℕ → Type 0} (W : GreedyWalk K) (b : Rules) (t : List ℕ) (R : Reads b t K) where
   -- the contexts at the first k taken starts; at the taken start number k
   pub record Below (k : ℕ) (c : Context) : Type 0 where
     pub member : C b t c

@@ -13,9 +13,10 @@ use Rattle.stretches.specs.Candidates.{Stretch, candidate, ruleOf, taken
 use Rattle.stretches.specs.Account.{each}
 use Rattle.stretches.specs.Paper.{Context, start, end, Earliest, CLML}
 use Rattle.stretches.specs.Sentences.{Candidate, Start, Chosen, Taken, first, next}
-use Rattle.stretches.proofs.Lists.{each-in, each-out, keep-yes, keep-not, First as FirstOf, first-is}
-use Rattle.stretches.proofs.Smallest.{Farthest, Takes, first as takes-first, next as takes-next}
-use Rattle.stretches.proofs.Walks.{rc-candidate, rc-in, Some, over, tape-over, symbolAt, reads, Walked, walked-over, takes-walked, lml-walked, Place, inside, begins, alone, place}
+use Rattle.stretches.proofs.Lists.{each-in, each-out, keep-yes, keep-not}
+use Rattle.stretches.proofs.First.{FirstPassing, first-is}
+use Rattle.stretches.proofs.Smallest.{Farthest, TakenAmong, first as first-among, next as next-among}
+use Rattle.stretches.proofs.Walks.{rc-candidate, rc-in, Some, over, tape-over, symbolAt, reads, Walked, walked-over, among-walked, lml-walked, Place, inside, begins, alone, place}
 
 abbrev pub stretch : ℕ → ℕ → Stretch
 stretch i j = record { start = i; end = j; taken = true }
@@ -74,7 +75,7 @@ module _ (b : Rules) (t : List ℕ) where
     λ z. taken-in i j (subst₂ (Walked b t) (z .2) (z .3) (lml-walked b t (z .0) .0 (z .1) .1)),
   )
 
-  pub rule-first : (i j : ℕ) → Some b t i j → FirstOf (candidate b t i j) 0 (length (b .words)) (ruleOf b t i j)
+  pub rule-first : (i j : ℕ) → Some b t i j → FirstPassing (candidate b t i j) 0 (length (b .words)) (ruleOf b t i j)
   rule-first i j s = let c = s .cand in first-is (candidate b t i j) 0 (length (b .words)) 0 (s .rule) (omega arith) (let k = c .known in omega arith) (c .holds)
 
   pub rule-paper : (c : Context) → CLML b t c → Earliest b t c (ruleOf b t (start c) (end c))
@@ -103,20 +104,20 @@ module _ (b : Rules) (t : List ℕ) where
   begun : {i j : ℕ} → Some b t i j → Start b t i
   begun {j = j} s = record { to = j; rule = s .rule; candidate = s .cand }
 
-  sentence-takes : {i j r : ℕ} → Taken b t i j r → Takes (Some b t) i j × (r ≡ ruleOf b t i j)
-  sentence-takes {i} {j} {r} (first m c) = (takes-first (record { allowed = tt; least = λ k l p x. m .least k (begun x) }) (farthest i j r c), chosen-rule i j r c)
-  sentence-takes (next {k = k} {l = l} {q = q} y m c) =
-      (takes-next (sentence-takes y .0) (record { allowed = (m .after, m .other); least = λ x e p s. let u = p .0 in let v = p .1 in m .least x (omega arith) (omega arith) (begun s) }) (farthest k l q c), chosen-rule k l q c)
+  sentence-among : {i j r : ℕ} → Taken b t i j r → TakenAmong (Some b t) i j × (r ≡ ruleOf b t i j)
+  sentence-among {i} {j} {r} (first m c) = (first-among (record { allowed = tt; least = λ k l p x. m .least k (begun x) }) (farthest i j r c), chosen-rule i j r c)
+  sentence-among (next {k = k} {l = l} {q = q} y m c) =
+      (next-among (sentence-among y .0) (record { allowed = (m .after, m .other); least = λ x e p s. let u = p .0 in let v = p .1 in m .least x (omega arith) (omega arith) (begun s) }) (farthest k l q c), chosen-rule k l q c)
 
-  takes-sentence : {i j : ℕ} → Takes (Some b t) i j → Taken b t i j (ruleOf b t i j)
-  takes-sentence {i} {j} (takes-first m f) = first (record { start = begun (f .cand); least = λ k s. m .least k (s .to) tt (record { rule = s .rule; cand = s .candidate }) }) (chosen i j f)
-  takes-sentence (takes-next {k = k} {l = l} y m f) = next (takes-sentence y)
+  among-sentence : {i j : ℕ} → TakenAmong (Some b t) i j → Taken b t i j (ruleOf b t i j)
+  among-sentence {i} {j} (first-among m f) = first (record { start = begun (f .cand); least = λ k s. m .least k (s .to) tt (record { rule = s .rule; cand = s .candidate }) }) (chosen i j f)
+  among-sentence (next-among {k = k} {l = l} y m f) = next (among-sentence y)
       (record { after = m .allowed .0; other = m .allowed .1; start = begun (f .cand); least = λ x h g s. m .least x (s .to) (omega arith, omega arith) (record { rule = s .rule; cand = s .candidate }) }) (chosen k l f)
 
   pub sentence-taken : (i j r : ℕ) → Taken b t i j r ↔ (List·Memᴰ (stretch i j) (taken b t) × (r ≡ ruleOf b t i j))
   sentence-taken i j r = (
-    λ x. let z = sentence-takes x in (taken-in i j (takes-walked b t i j .0 (z .0)), z .1),
-    λ z. subst (Taken b t i j) (sym (z .1)) (takes-sentence (takes-walked b t i j .1 (taken-out i j (z .0)))),
+    λ x. let z = sentence-among x in (taken-in i j (among-walked b t i j .0 (z .0)), z .1),
+    λ z. subst (Taken b t i j) (sym (z .1)) (among-sentence (among-walked b t i j .1 (taken-out i j (z .0)))),
   )
 
   pub sentence-paper : (i j r : ℕ) → Taken b t i j r ↔ ((c : Context) × CLML b t c × Earliest b t c r × (start c ≡ i) × (end c ≡ j))

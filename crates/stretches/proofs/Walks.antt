@@ -16,10 +16,10 @@ use Rattle.stretches.specs.Account.{each}
 use Rattle.stretches.specs.Paper.{Context, start, end, RC, C, CLML}
 use Rattle.stretches.specs.Sentences.{Candidate}
 use borrow.Author.Tests.{lt-ltb, le-ltb}
-use Rattle.stretches.proofs.Lists.{last-low, last-high, last-passes, last-reach}
+use Rattle.stretches.proofs.Last.{last-low, last-high, last-passes, last-reach}
 use Rattle.stretches.proofs.Words.{take-first, drop-third, slice-second, parts, end-within, end-at}
-use Rattle.stretches.proofs.Greedy.{Walk, Reads, At, lml}
-use Rattle.stretches.proofs.Smallest.{Takes, takes-out, takes-in}
+use Rattle.stretches.proofs.Greedy.{GreedyWalk, Reads, At, lml}
+use Rattle.stretches.proofs.Smallest.{TakenAmong, among-out, among-in}
 
 pub record Some (b : Rules) (t : List ℕ) (i j : ℕ) : Type 0 where
   pub rule : ℕ
@@ -147,7 +147,7 @@ module _ (b : Rules) (t : List ℕ) where
   over-mid s i f h k = le-ind (λ (i : ℕ). i < longest b t s → over i ≡ over s) (λ g. refl)
       (λ m g p q. let e = p (omega arith) in let z = ap (λ (d : Stretch). d .end) (e ∙ over-far s f) in over-in m (omega arith) ∙ e) i h k
 
-  pub walk : Walk (Some b t)
+  pub walk : GreedyWalk (Some b t)
   walk = record {
     Free = λ (i : ℕ). over i .start ≡ i;
     far = longest b t;
@@ -233,9 +233,9 @@ module _ (b : Rules) (t : List ℕ) where
   unfolding walk
   at-walked a = record { free = a .free; far = refl; some = a .cand }
 
-  pub takes-walked : (i j : ℕ) → Takes (Some b t) i j ↔ Walked i j
+  pub among-walked : (i j : ℕ) → TakenAmong (Some b t) i j ↔ Walked i j
   unfolding walk
-  takes-walked i j = (λ x. let z = takes-out walk x in subst (Walked i) (sym (z .1)) (at-walked (z .0)), λ w. subst (Takes (Some b t) i) (sym (w .far)) (takes-in walk i (walked-at w)))
+  among-walked i j = (λ x. let z = among-out walk x in subst (Walked i) (sym (z .1)) (at-walked (z .0)), λ w. subst (TakenAmong (Some b t) i) (sym (w .far)) (among-in walk i (walked-at w)))
 
   pub lml-walked : (c : Context) → CLML b t c ↔ (C b t c × Walked (start c) (end c))
   unfolding walk

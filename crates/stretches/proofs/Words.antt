@@ -1,25 +1,12 @@
 -- A context is a stretch of the tape: cuts of a tape at two positions. Assumes nothing.
-use Prim.Native.Nat.{ℕ, zero, suc, _≤_}
+use Prim.Native.Nat.{ℕ, _≤_}
 use mathlib.Core.List.{List, [], _∷_, _++_, append-assoc}
 use mathlib.Core.Path.{_≡_, refl, sym, ap, _∙_}
 use native.Mathlib.Omega.{arith}
 use lib.ListN.{length, take, drop, length-append, take-append-drop}
 use lib.Seq.{slice, take-append-seam, drop-append-seam, length-take-le, length-slice}
-use native.Mathlib.Nat.{not-suc-le-zero, le-of-suc-le-suc}
-use Rattle.book.proofs.Tests.{Cut, nil, cons, cut-eq}
-
--- the front and the rest
-pub take-cut : (j : ℕ) (t : List ℕ) → Cut (take j t) (drop j t) t
-take-cut zero t = nil
-take-cut (suc j) [] = nil
-take-cut (suc j) (a ∷ t) = cons (take-cut j t)
-
--- from i: a stretch to j, then the rest
-pub slice-cut : (t : List ℕ) (i j : ℕ) → i ≤ j → Cut (slice i j t) (drop j t) (drop i t)
-slice-cut t zero j h = take-cut j t
-slice-cut t (suc i) zero h = absurd (not-suc-le-zero h)
-slice-cut [] (suc i) (suc j) h = nil
-slice-cut (a ∷ t) (suc i) (suc j) h = slice-cut t i j (le-of-suc-le-suc h)
+use Rattle.book.proofs.Tests.{cut-eq}
+use Rattle.sets.proofs.Slices.{slice-cut}
 
 pub take-first : (u v w t : List ℕ) → t ≡ u ++ (v ++ w) → take (length u) t ≡ u
 take-first u v w t e = ap (take (length u)) e ∙ take-append-seam u (v ++ w)
