@@ -9,8 +9,8 @@ use native.Mathlib.Nat.{zero-add}
 use native.Mathlib.Decide.{decLt}
 use borrow.Author.Tests.{lt-ltb, le-ltb, le-leb, lt-leb}
 use lib.ListN.{length, getD, drop}
-use Rattle.book.specs.Format.{symbolCount}
 use Rattle.book.specs.Language.{Rules, rulesIn}
+use Rattle.sets.specs.Tables.{leftEntry}
 use Rattle.stretches.specs.Candidates.{Stretch, longest, ruleOf}
 use Rattle.stretches.specs.Account.{Line, linesAt, account, lineLength, wordsIn}
 use Rattle.stretches.specs.Buffers.{onto}
@@ -90,7 +90,7 @@ module _ (book t rows sets scratch l₀ : List ℕ) (ready : Ready book t rows s
         pub accounting-room : LinesFit (startLines (rulesIn book) t i d) at l
         accounting-room = written-room (account (rulesIn book) t) l₀ 0 l at (from (rulesIn book) t (linesAt (rulesIn book) t) i) (was .written) (startLines (rulesIn book) t i d) (from (rulesIn book) t (linesAt (rulesIn book) t) (suc i)) step
 
-        pub accounting-turn : (at′ k′ : ℕ) (l′ : List ℕ) → LinesPut (startLines (rulesIn book) t i d) at l at′ l′ → k′ ≡ getD rows (symbolCount * k + getD t i 0) 0
+        pub accounting-turn : (at′ k′ : ℕ) (l′ : List ℕ) → LinesPut (startLines (rulesIn book) t i d) at l at′ l′ → k′ ≡ leftEntry rows k (getD t i 0)
             → Accounting book t sets l₀ l′ at′ d k′ (i + 1)
         accounting-turn at′ k′ l′ did g = record {
           within = omega arith;

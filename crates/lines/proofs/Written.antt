@@ -13,7 +13,7 @@ use Rattle.book.specs.Reading.{Book, bookOf}
 use Rattle.book.specs.Language.{Rules, rulesIn}
 use Rattle.sets.specs.Sets.{leftAt}
 use Rattle.sets.specs.Focus.{focusFirst, focusNext}
-use Rattle.sets.specs.Numbering.{mostSets}
+use Rattle.sets.specs.Tables.{rightSet}
 use Rattle.stretches.specs.Candidates.{candidate, keep}
 use Rattle.stretches.specs.Account.{Line, each, lineWords, lineLength, wordsIn}
 use Rattle.stretches.specs.Ready.{RightSets}
@@ -175,7 +175,7 @@ pub record Listed (book t : List ℕ) (i : ℕ) (d : Deciding) (l₀ l : List �
   pub written : Written (startLines (rulesIn book) t i d) l₀ at l p (pastEnd (rulesIn book) t i d j)
 
 module _ (book t sets scratch : List ℕ) (seen : RightSets book t sets scratch) (i : ℕ) (d : Deciding) where
-  pub listed-start : (L R F : ℕ) (l : List ℕ) (at : ℕ) → i ≤ length t → L ≡ leftAt (bookOf book) t i → R ≡ getD sets (mostSets + getD scratch i 0) 0 → F ≡ focusFirst (bookOf book) L R
+  pub listed-start : (L R F : ℕ) (l : List ℕ) (at : ℕ) → i ≤ length t → L ≡ leftAt (bookOf book) t i → R ≡ rightSet sets (getD scratch i 0) → F ≡ focusFirst (bookOf book) L R
       → LinesFit (startLines (rulesIn book) t i d) at l → Listed book t i d l l at at i F
   listed-start L R F l at k e f g h = record {
     walk = pruned-start book t sets scratch seen i L R F k e f g;
@@ -183,7 +183,7 @@ module _ (book t sets scratch : List ℕ) (seen : RightSets book t sets scratch)
   }
 
   module _ (l₀ l : List ℕ) (at p j set : ℕ) (was : Listed book t i d l₀ l at p j set) where
-    module _ (inside : j < length t) (R X : ℕ) (e : R ≡ getD sets (mostSets + getD scratch (j + 1) 0) 0) (f : X ≡ focusNext (bookOf book) set (getD t j 0) R) where
+    module _ (inside : j < length t) (R X : ℕ) (e : R ≡ rightSet sets (getD scratch (j + 1) 0)) (f : X ≡ focusNext (bookOf book) set (getD t j 0) R) where
       lines-are : hitLines (bookOf book) X R i (j + 1) d ≡ endLines (rulesIn book) t i d (suc j)
       unfolding hitLines
       lines-are = rw add-one (each-same (λ (r : ℕ). keep (hits (bookOf book) X R r) (lineBy i (suc j) r d)) (λ (r : ℕ). keep (candidate (rulesIn book) t i (suc j) r) (lineBy i (suc j) r d)) 0 (length (bookOf book .words))

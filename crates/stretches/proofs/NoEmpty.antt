@@ -15,8 +15,7 @@ use Rattle.book.specs.Reading.{State, Book, checkDef, bookOf}
 use Rattle.book.specs.Language.{Rules, rules, rulesIn, upFrom, stateOf, flagged, isOf, starts, ends, isStart, isAccept, someState, accepts, leads}
 use Rattle.book.specs.Sound.{StateFits, Sound}
 use Rattle.book.proofs.Tests.{and-left, and-right, any-up, same-test}
-use Rattle.book.proofs.Accepted.{is-accepted}
-use Rattle.book.proofs.Sound.{accepted-sound}
+use Rattle.book.proofs.Claims.{sound}
 use Rattle.stretches.specs.Candidates.{candidate, someRule, lastOf, longest, fresh}
 use Rattle.stretches.specs.Sentences.{Candidate}
 use Rattle.stretches.proofs.Walks.{longest-low, some-far, test-some}
@@ -55,7 +54,7 @@ sound-no-empty b h = record {
 }
 
 pub no-empty : (s : List ℕ) → checkDef s .reply ≡ 0 → NoEmpty (rulesIn s)
-no-empty s h = sound-no-empty (bookOf s) (accepted-sound s (bookOf s) (is-accepted s h))
+no-empty s h = sound-no-empty (bookOf s) (sound s h)
 
 module _ (b : Rules) (t : List ℕ) where
   -- of every batch: the end i itself does not matter to the longest
@@ -70,9 +69,9 @@ module _ (b : Rules) (t : List ℕ) where
       same false = refl
 
   module _ (n : NoEmpty b) where
-    none : (i r : ℕ) → T (candidate b t i i r) → ⊥
+    pub none-empty : (i r : ℕ) → T (candidate b t i i r) → ⊥
     unfolding candidate
-    none i r c =
+    none-empty i r c =
         let F = b .focus r (slice i i t) in let L = b .left r (take i t) in let G = b .right r (drop i t) in
         n .none r (subst (λ (w : List ℕ). T (b .focus r w)) (slice-empty i t) (and-left F L (and-left (F && L) G c)))
 
@@ -80,7 +79,7 @@ module _ (b : Rules) (t : List ℕ) where
     pub past-start : (i j r : ℕ) → Candidate b t i j r → i < j
     past-start i j r c =
         let o = c .ordered in
-        by-cases (decLt i j) (λ h. h) (λ h. let e : j ≡ i = omega arith in absurd (none i r (subst (λ (k : ℕ). T (candidate b t i k r)) e (c .holds))))
+        by-cases (decLt i j) (λ h. h) (λ h. let e : j ≡ i = omega arith in absurd (none-empty i r (subst (λ (k : ℕ). T (candidate b t i k r)) e (c .holds))))
 
     -- a start is taken where the longest is past it
     pub fresh-past : (i : ℕ) → fresh b t i ≡ record { start = i; end = longest b t i; taken = ltb i (longest b t i) }
@@ -92,4 +91,4 @@ module _ (b : Rules) (t : List ℕ) where
             (λ h. let l = longest-low b t i in
             let e : longest b t i ≡ i = omega arith in
             let z = any-up (candidate b t i i) 0 (length (b .words)) .0 (subst (λ (j : ℕ). T (someRule b t i j)) e x) in
-            absurd (none i (z .0) (z .3)))
+            absurd (none-empty i (z .0) (z .3)))

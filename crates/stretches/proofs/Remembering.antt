@@ -9,11 +9,11 @@ use lib.Bits.{bitAnd}
 use lib.ListN.{getD, set, replicate, length-set, length-replicate, getD-replicate}
 use lib.Seq.{getD-set-same, getD-set-other}
 use Rattle.book.specs.Reading.{Book, checkDef, bookOf}
+use Rattle.book.proofs.Claims.{sound}
 use Rattle.sets.specs.Focus.{focusStep, focusNext}
 use Rattle.sets.proofs.Meaning as Meaning
 use Rattle.sets.proofs.Meaning.{step-none}
 use Rattle.stretches.specs.Ready.{slotCount, afterStep, Remembers}
-use Rattle.stretches.proofs.Scans.{sound-of}
 
 -- the steps of the empty set
 zero-at : (n k : ℕ) → k < n → getD (replicate {A = ℕ} n 0) k 0 ≡ 0
@@ -57,4 +57,4 @@ module _ (b : Book) (S A : List ℕ) (k x a y : ℕ) (was : Remembers b S A) (h 
 
 -- the step of the focus, cut to the right set
 pub step-pruned : (book : List ℕ) → checkDef book .reply ≡ 0 → (F a R x : ℕ) → x ≡ focusStep (bookOf book) F a → bitAnd x R ≡ focusNext (bookOf book) F a R
-step-pruned book h F a R x e = ap (λ (y : ℕ). bitAnd y R) e ∙ Meaning.step-pruned (bookOf book) (sound-of book h) F a R
+step-pruned book h F a R x e = ap (λ (y : ℕ). bitAnd y R) e ∙ Meaning.step-pruned (bookOf book) (sound book h) F a R

@@ -6,14 +6,14 @@ use borrow.Author.Needs.{needs}
 use lib.ListN.{length}
 use Rattle.book.specs.Reading.{bookOf}
 use Rattle.stretches.specs.Ready.{Remembers}
-use Rattle.stretches.proofs.Scans.{Scan, walk-start, walk-hit, walk-miss, walk-dead, walk-end}
+use Rattle.stretches.proofs.Scans.{Scanned, walk-start, walk-hit, walk-miss, walk-dead, walk-end}
 use Rattle.stretches.proofs.Remembering.{step-pruned}
 use Rattle.stretches.proofs.walk.taken_at.Statement.{statement}
 use Rattle.stretches.proofs.walk.taken_at.Tie as tie
 
 abbrev Inv-loop : tie.InvT-loop
 Inv-loop book places masks rules tape sets scratch from left steps₀ symbols₀ set₀ end₀ rule₀ j₀ steps symbols set end rule j =
-    Scan (bookOf book) tape from j set end rule × Remembers (bookOf book) steps symbols
+    Scanned (bookOf book) tape from j set end rule × Remembers (bookOf book) steps symbols
 
 abbrev μ-loop : tie.MeasureT-loop
 μ-loop book places masks rules tape sets scratch from left steps₀ symbols₀ set₀ end₀ rule₀ j₀ steps symbols set end rule j =
