@@ -1,4 +1,5 @@
--- The account of a tape, start after start, where one stretch decides at each position; and ACCOUNT's two answers after a build. Assumes nothing.
+-- The account of a tape, start after start, where one stretch decides at each position; ACCOUNT's two answers after a build, and what they leave.
+-- Assumes nothing.
 use Prim.Native.Nat.{ℕ, suc, _+_, _*_, _/_, _≤_, _<_}
 use mathlib.Core.Path.{_≡_, refl, sym, ap, _∙_, subst}
 use mathlib.Core.Logic.{by-cases}
@@ -7,7 +8,8 @@ use native.Mathlib.Omega.{arith}
 use native.Mathlib.Numerals.{add-one}
 use native.Mathlib.Nat.{zero-add}
 use native.Mathlib.Decide.{decLt}
-use borrow.Author.Tests.{lt-ltb, le-ltb, le-leb, lt-leb}
+use borrow.Author.Tests.{lt-ltb, le-ltb, le-leb, lt-leb, leb-true}
+use lib.Dec.{leb}
 use lib.ListN.{length, getD, drop}
 use Rattle.book.specs.Language.{Rules, rulesIn}
 use Rattle.sets.specs.Tables.{leftEntry}
@@ -19,6 +21,8 @@ use Rattle.stretches.specs.Ready.{Ready}
 use Rattle.stretches.specs.Position.{TakenHere}
 use Rattle.lines.specs.Lines.{decider, decidingAt, startLines, LinesFit, LinesPut}
 use Rattle.lines.specs.declared.writing.Deciding.{Deciding}
+use Rattle.stretches.proofs.Lists.{by-test}
+use Rattle.stretches.proofs.Onto.{onto-length}
 use Rattle.stretches.proofs.Walks.{over, over-suc, over-zero, cover-in, cover-new, stands}
 use Rattle.stretches.proofs.Counts.{words-length}
 use Rattle.stretches.proofs.NoEmpty.{no-empty}
@@ -128,3 +132,21 @@ module _ (b : Rules) (t lines : List ℕ) (n : ℕ) (e : n ≡ length (account b
   long h l f =
       let g : lineLength * length (account b t) ≤ length lines = omega arith in
       rw (le-leb (lineLength * length (account b t)) (length lines) g) (λ x. linesLeave (record { reply = 0; place = 0; candidates = e x }) (f x))
+
+-- ---- what they leave: no more lines than there is room for, and the account as long as it was
+
+module _ (b : Rules) (tape lines : List ℕ) where
+  abbrev words : ℕ
+  words = lineLength * length (account b tape)
+
+  pub lines-fit : lineLength * linesDef b tape lines .answer .candidates ≤ length lines
+  unfolding linesDef
+  lines-fit =
+      by-test (λ (x : AfterLines). lineLength * x .answer .candidates ≤ length lines) (leb words (length lines)) _ _
+      (λ e. leb-true words (length lines) e) (λ e. omega arith)
+
+  pub lines-kept : length (linesDef b tape lines .lines) ≡ length lines
+  unfolding linesDef
+  lines-kept =
+      by-test (λ (x : AfterLines). length (x .lines) ≡ length lines) (leb words (length lines)) _ _
+      (λ e. onto-length (wordsIn (account b tape)) lines (omega (arith, leb-true words (length lines) e, words-length (account b tape)))) (λ e. refl)

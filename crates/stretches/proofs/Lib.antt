@@ -27,3 +27,4 @@ pub mod Front
 pub mod Lefts
 pub mod Along
 pub mod Pruned
+pub mod Onto
