@@ -5,7 +5,7 @@ use sets::entries::right_set;
 use stretches::outline::ALL_ACCEPTS;
 use stretches::outline::MASKS;
 use stretches::outline::outline_of;
-use stretches::walk::focus_first;
+use stretches::walk::first_set;
 use stretches::walk::rule_hits;
 ghost use mathlib.Core.Path.{_≡_};
 ghost use Prim.Native.Nat.{_≤_};
@@ -68,7 +68,7 @@ fn start_count(
     requires { ⌜ (from ≤ length (now tape)) × (length (now tape) ≤ longestTape) × (left ≡ leftAt (bookOf (now book)) (now tape) from) ⌝ }
     ensures { λ n. ⌜ n ≡ startCount (rulesIn (now (book .entry))) (now (tape .entry)) from ⌝ }
 {
-    let mut set = focus_first(book, masks, rules, left, right_set(sets, scratch, from));
+    let mut set = first_set(book, masks, rules, left, right_set(sets, scratch, from));
     let mut n = 0;
     let mut j = from;
     while j < tape.len() {

@@ -7,7 +7,7 @@ use stretches::outline::ALL_ACCEPTS;
 use stretches::outline::MASKS;
 use stretches::steps::SLOTS;
 use stretches::steps::STEPS;
-use stretches::walk::focus_first;
+use stretches::walk::first_set;
 use stretches::walk::rule_hits;
 use stretches::walk::taken_at;
 ghost use mathlib.Core.Path.{_≡_};
@@ -155,7 +155,7 @@ fn lines_at(
     requires { ⌜ LinesFit (startLines (rulesIn (now book)) (now tape) from d) at (now lines) ⌝ }
     ensures { λ p. ⌜ LinesPut (startLines (rulesIn (now (book .entry))) (now (tape .entry)) from d) at (now (lines .entry)) p (now (lines .exit)) ⌝ }
 {
-    let mut set = focus_first(book, masks, rules, left, right_set(sets, scratch, from));
+    let mut set = first_set(book, masks, rules, left, right_set(sets, scratch, from));
     let mut p = at;
     let mut j = from;
     while j < tape.len() {

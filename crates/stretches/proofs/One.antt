@@ -18,8 +18,8 @@ use Rattle.stretches.specs.Candidates.{ruleOf}
 use Rattle.stretches.specs.Ready.{focusStarts, focusAccepts, rightStarts, allStarts, allAccepts, maskCount, Tests}
 use Rattle.stretches.proofs.outline.outline_of.Kinds as outline-kinds
 use Rattle.stretches.proofs.outline.outline_of.Reads as outline-reads
-use Rattle.stretches.proofs.walk.focus_first.Kinds as first-kinds
-use Rattle.stretches.proofs.walk.focus_first.Reads as first-reads
+use Rattle.stretches.proofs.walk.first_set.Kinds as first-kinds
+use Rattle.stretches.proofs.walk.first_set.Reads as first-reads
 use Rattle.stretches.proofs.walk.rule_hits.Kinds as hits-kinds
 use Rattle.stretches.proofs.walk.rule_hits.Reads as hits-reads
 use Rattle.stretches.proofs.walk.taken_at.Kinds as taken-kinds

@@ -20,8 +20,8 @@ right-set-requires : tie.Need-right-set-requires Inv-loop μ-loop
 right-set-requires c κs =
     (omega (arith, c .before .before .before .before .before .pre .1 .0 .scratch-room, c .before .before .before .before .before .pre .1 .1 .0 .0), c .before .before .before .before .before .pre .1 .0 .sets-room)
 
-focus-first-requires : tie.Need-focus-first-requires Inv-loop μ-loop
-focus-first-requires c κs =
+first-set-requires : tie.Need-first-set-requires Inv-loop μ-loop
+first-set-requires c κs =
     c .before .before .before .before .before .before .pre .0 .tests
 
 loop-holds : tie.Need-loop-holds Inv-loop μ-loop
@@ -29,7 +29,7 @@ loop-holds c =
     let s = c .before .before .before .before .before .before .before in
     let a = s .args in
     let R = c .before .right-set in
-    listed-start (a .book .now) (a .tape .now) (a .sets .now) (a .scratch .now) (s .pre .1 .0) (a .from) (a .d) (a .left) (R .result) (c .focus-first .result) (a .lines .now) (a .at) (s .pre .1 .1 .0 .0) (s .pre .1 .1 .0 .1) (R .ensures) (c .focus-first .ensures) (s .pre .1 .1 .1 .1)
+    listed-start (a .book .now) (a .tape .now) (a .sets .now) (a .scratch .now) (s .pre .1 .0) (a .from) (a .d) (a .left) (R .result) (c .first-set .result) (a .lines .now) (a .at) (s .pre .1 .1 .0 .0) (s .pre .1 .1 .0 .1) (R .ensures) (c .first-set .ensures) (s .pre .1 .1 .1 .1)
 
 same-length : tie.Need-same-length Inv-loop μ-loop
 same-length c = search needs
@@ -102,7 +102,7 @@ lines-at-spec =
     Inv-loop
     μ-loop
     right-set-requires
-    focus-first-requires
+    first-set-requires
     loop-holds
     same-length
     returns
