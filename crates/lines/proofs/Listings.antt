@@ -19,7 +19,7 @@ use Rattle.stretches.specs.Buffers.{onto}
 use Rattle.lines.specs.Listing.{AfterLines, linesLeave, linesDef}
 use Rattle.stretches.specs.Ready.{Ready}
 use Rattle.stretches.specs.Position.{TakenHere}
-use Rattle.lines.specs.Lines.{decider, decidingAt, startLines, LinesFit, LinesPut}
+use Rattle.lines.specs.Lines.{DecidesBy, decider, decidingAt, startLines, LinesFit, LinesPut}
 use Rattle.lines.specs.declared.writing.Deciding.{Deciding}
 use Rattle.stretches.proofs.Lists.{by-test}
 use Rattle.stretches.proofs.Onto.{onto-length}
@@ -82,8 +82,8 @@ module _ (book t rows sets scratch l₀ : List ℕ) (ready : Ready book t rows s
       decides : d ≡ decider (rulesIn book) t (over (rulesIn book) t i)
       decides = e ∙ was .next
 
-      pub deciding-low : d .start ≤ i
-      deciding-low = omega (arith, ap (λ (x : Deciding). x .start) decides, stands (rulesIn book) t i .low)
+      pub deciding-here : DecidesBy i d
+      deciding-here = record { start = omega (arith, ap (λ (x : Deciding). x .start) decides, stands (rulesIn book) t i .low) }
 
       module _ (inside : i < length t) where
         step : from (rulesIn book) t (linesAt (rulesIn book) t) i ≡ startLines (rulesIn book) t i d ++ from (rulesIn book) t (linesAt (rulesIn book) t) (suc i)

@@ -15,10 +15,10 @@ use Rattle.sets.specs.Sets.{leftAt}
 use Rattle.sets.specs.Focus.{focusFirst, focusNext}
 use Rattle.sets.specs.Tables.{rightSet}
 use Rattle.stretches.specs.Candidates.{candidate, keep}
-use Rattle.stretches.specs.Account.{Line, each, lineWords, lineLength, wordsIn}
+use Rattle.stretches.specs.Account.{Line, each, lineWords, lineLength, lineRule, lineStart, lineEnd, lineVerdict, lineDeciding, wordsIn}
 use Rattle.stretches.specs.Ready.{RightSets}
 use Rattle.stretches.specs.Position.{hits}
-use Rattle.lines.specs.Lines.{lineBy, hitLines, endLines, startLines, LinesFit, LinesPut}
+use Rattle.lines.specs.Lines.{lineBy, DecidesBy, hitLines, endLines, startLines, LinesFit, LinesPut}
 use Rattle.lines.specs.declared.writing.Deciding.{Deciding}
 use Rattle.stretches.proofs.Lists.{each-none, each-same, keep-not}
 use Rattle.stretches.proofs.NoEmpty.{NoEmpty, no-empty, past-start}
@@ -38,14 +38,28 @@ words-none = refl
 
 -- the stores of a line's words, one after the other
 pub put-words : (x : Line) (l : List ℕ) (at : ℕ) → at + lineLength ≤ length l
-    → LinesPut (x ∷ []) at l (at + lineLength) (set (set (set (set (set l at (x .rule)) (at + 1) (x .start)) (at + 2) (x .end)) (at + 3) (x .verdict)) (at + 4) (x .deciding))
+    → LinesPut (x ∷ []) at l (at + lineLength)
+    (set
+    (set
+    (set
+    (set
+    (set l
+    (at + lineRule) (x .rule))
+    (at + lineStart) (x .start))
+    (at + lineEnd) (x .end))
+    (at + lineVerdict) (x .verdict))
+    (at + lineDeciding) (x .deciding))
 unfolding wordsIn
 put-words x l at h =
-    let p1 : at + 1 ≡ suc at = omega arith in
-    let p2 : at + 2 ≡ suc (suc at) = omega arith in
-    let p3 : at + 3 ≡ suc (suc (suc at)) = omega arith in
-    let p4 : at + 4 ≡ suc (suc (suc (suc at))) = omega arith in
-    record { next = refl; lines = rw (p1, p2, p3, p4) (sets-eq (lineWords x) l at h) }
+    let p0 : at + lineRule ≡ at = omega arith in
+    let p1 : at + lineStart ≡ suc at = omega arith in
+    let p2 : at + lineEnd ≡ suc (suc at) = omega arith in
+    let p3 : at + lineVerdict ≡ suc (suc (suc at)) = omega arith in
+    let p4 : at + lineDeciding ≡ suc (suc (suc (suc at))) = omega arith in
+    record { next = refl; lines = rw (p0, p1, p2, p3, p4) (sets-eq (lineWords x) l at h) }
+
+pub decides-up : (i n : ℕ) (d : Deciding) → i ≤ n → DecidesBy i d → DecidesBy n d
+decides-up i n d h was = record { start = omega (arith, was .start) }
 
 -- the line of a rule that passes, and none of one that does not
 pub kept-room : (hit c : Bool) (x : Line) (at : ℕ) (l : List ℕ) → hit ≡ c → hit ≡ true → LinesFit (keep c x) at l → at + lineLength ≤ length l

@@ -12,7 +12,7 @@ use borrow.Author.Tests.{lt-ltb, le-ltb}
 use Rattle.stretches.proofs.Lists.{each-none, each-same, each-only, map-each, keep-yes, taken-each, taken-not}
 use Rattle.stretches.proofs.Sorting.{linesFrom, lines, lines-out, lines-in, lines-sorted}
 use Rattle.stretches.specs.Candidates.{candidate, keep, ruleOf, taken}
-use Rattle.stretches.specs.Account.{Line, each, lineFor, linesAt, account}
+use Rattle.stretches.specs.Account.{Line, judge, each, lineFor, linesAt, account}
 use Rattle.stretches.specs.Sentences.{Candidate, Sorted, Takes, Judged, takenLines, lineOf}
 use Rattle.stretches.proofs.Walks.{over, tape-over, far-reach, Walked, Place, inside, begins, alone, place}
 use Rattle.stretches.proofs.Stretches.{stretch, tk, tk-inside, tk-alone, tk-begins, taken-list, taken-walked, rule-first}
@@ -65,16 +65,13 @@ module _ (b : Rules) (t : List ℕ) where
   abbrev ruled : ℕ → ℕ → ℕ
   ruled i j = ruleOf b t i j
 
-  abbrev judge : ℕ → ℕ → ℕ → ℕ → ℕ → Line
-  judge i j r v d = record { rule = r; start = i; end = j; verdict = v; deciding = d }
-
   out : {i j : ℕ} → Takes b t i j → Walked b t i j
   out {i} {j} = taken-walked b t i j .0
 
   into : {i j : ℕ} → Walked b t i j → Takes b t i j
   into {i} {j} = taken-walked b t i j .1
 
-  judged-0 : (i j r : ℕ) → Walked b t i j → r ≡ ruled i j → Judged b t (judge i j r 0 i)
+  judged-0 : (i j r : ℕ) → Walked b t i j → r ≡ ruled i j → Judged b t (judge i j r 0 i (ruled i j))
   judged-0 i j r w e = record {
     taken-one = (λ z. (into w, e), λ z. refl);
     shorter = (λ z. absurd (omega arith), λ z. let a = walked-one b t w (out (z .1)) in let h = z .2 in absurd (omega arith));
@@ -85,7 +82,7 @@ module _ (b : Rules) (t : List ℕ) where
     deciding-own = λ z. refl;
   }
 
-  judged-1 : (i j r e : ℕ) → Walked b t i e → j < e → Judged b t (judge i j r 1 i)
+  judged-1 : (i j r e : ℕ) → Walked b t i e → j < e → Judged b t (judge i j r 1 i (ruled i e))
   judged-1 i j r e w h = record {
     taken-one = (λ z. absurd (omega arith), λ z. let a = walked-one b t w (out (z .0)) in absurd (omega arith));
     shorter = (λ z. (e, into w, h), λ z. refl);
@@ -96,7 +93,7 @@ module _ (b : Rules) (t : List ℕ) where
     deciding-own = λ z. refl;
   }
 
-  judged-2 : (i j r : ℕ) → Walked b t i j → ruled i j < r → Judged b t (judge i j r 2 i)
+  judged-2 : (i j r : ℕ) → Walked b t i j → ruled i j < r → Judged b t (judge i j r 2 i (ruled i j))
   judged-2 i j r w h = record {
     taken-one = (λ z. absurd (omega arith), λ z. let a = z .1 in absurd (omega arith));
     shorter = (λ z. absurd (omega arith), λ z. let a = walked-one b t w (out (z .1)) in let h = z .2 in absurd (omega arith));
@@ -107,7 +104,7 @@ module _ (b : Rules) (t : List ℕ) where
     deciding-own = λ z. refl;
   }
 
-  judged-3 : (i j r s e : ℕ) → Walked b t s e → s < i → i < e → Judged b t (judge i j r 3 s)
+  judged-3 : (i j r s e : ℕ) → Walked b t s e → s < i → i < e → Judged b t (judge i j r 3 s (ruled s e))
   judged-3 i j r s e w h k = record {
     taken-one = (λ z. absurd (omega arith), λ z. absurd (walked-apart b t w h k (out (z .0))));
     shorter = (λ z. absurd (omega arith), λ z. absurd (walked-apart b t w h k (out (z .1))));
@@ -118,16 +115,16 @@ module _ (b : Rules) (t : List ℕ) where
     deciding-own = λ z. absurd (omega arith);
   }
 
-  line-3 : (i j r s e : ℕ) → s < i → over b t i ≡ stretch s e → lineAt i j r ≡ judge i j r 3 s
+  line-3 : (i j r s e : ℕ) → s < i → over b t i ≡ stretch s e → lineAt i j r ≡ judge i j r 3 s (ruled s e)
   line-3 i j r s e h o = ap (lineFor b t i j r) o ∙ rw (lt-ltb s i h)
 
-  line-1 : (i j r e : ℕ) → j < e → over b t i ≡ stretch i e → lineAt i j r ≡ judge i j r 1 i
+  line-1 : (i j r e : ℕ) → j < e → over b t i ≡ stretch i e → lineAt i j r ≡ judge i j r 1 i (ruled i e)
   line-1 i j r e h o = ap (lineFor b t i j r) o ∙ rw (le-ltb i i (omega arith), lt-ltb j e h)
 
-  line-2 : (i j r : ℕ) → ruled i j < r → over b t i ≡ stretch i j → lineAt i j r ≡ judge i j r 2 i
+  line-2 : (i j r : ℕ) → ruled i j < r → over b t i ≡ stretch i j → lineAt i j r ≡ judge i j r 2 i (ruled i j)
   line-2 i j r h o = ap (lineFor b t i j r) o ∙ rw (le-ltb i i (omega arith), le-ltb j j (omega arith), lt-ltb (ruled i j) r h)
 
-  pub line-0 : (i j r : ℕ) → r ≤ ruled i j → over b t i ≡ stretch i j → lineAt i j r ≡ judge i j r 0 i
+  pub line-0 : (i j r : ℕ) → r ≤ ruled i j → over b t i ≡ stretch i j → lineAt i j r ≡ judge i j r 0 i (ruled i j)
   line-0 i j r h o = ap (lineFor b t i j r) o ∙ rw (le-ltb i i (omega arith), le-ltb j j (omega arith), le-ltb (ruled i j) r h)
 
   pub line-judged : (i j r : ℕ) → Candidate b t i j r → Place b t i → Judged b t (lineAt i j r)

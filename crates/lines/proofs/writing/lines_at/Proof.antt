@@ -4,7 +4,8 @@ use native.Mathlib.Omega.{arith}
 use borrow.Author.Needs.{needs}
 use lib.ListN.{length}
 use Rattle.stretches.specs.Buffers.{longestTape}
-use Rattle.lines.proofs.Written.{Listed, listed-start, listed-room, listed-turn, listed-dead, listed-end}
+use Rattle.lines.specs.Lines.{DecidesBy}
+use Rattle.lines.proofs.Written.{decides-up, Listed, listed-start, listed-room, listed-turn, listed-dead, listed-end}
 use Rattle.lines.proofs.writing.lines_at.Statement.{statement}
 use Rattle.lines.proofs.writing.lines_at.Tie as tie
 
@@ -68,8 +69,8 @@ put-rules-requires c κs =
     let h : l .j < length (a .tape .now) = c .before .before .before .before .before .loop-test .taken in
     let f : length (a .tape .now) ≤ longestTape = s .pre .1 .1 .1 .0 .0 in
     let w : a .from ≤ length (a .tape .now) = s .pre .1 .1 .0 .0 in
-    let u : a .d .start ≤ a .from = s .pre .1 .1 .1 .0 .1 in
-    (s .pre .0 .tests, ((omega arith, omega arith, omega arith), listed-room (a .book .now) (a .tape .now) (a .sets .now) (a .scratch .now) (s .pre .1 .0) (a .from) (a .d) (a .lines .now) (l .lines) (a .at) (l .p) (l .j) (l .set) (l .inv) h (R .result) (X .result) (R .ensures) (X .ensures)))
+    let d : DecidesBy longestTape (a .d) = decides-up (a .from) longestTape (a .d) (omega arith) (s .pre .1 .1 .1 .0 .1) in
+    (s .pre .0 .tests, ((omega arith, omega arith, d), listed-room (a .book .now) (a .tape .now) (a .sets .now) (a .scratch .now) (s .pre .1 .0) (a .from) (a .d) (a .lines .now) (l .lines) (a .at) (l .p) (l .j) (l .set) (l .inv) h (R .result) (X .result) (R .ensures) (X .ensures)))
 
 loop-less : tie.Need-loop-less Inv-loop μ-loop
 loop-less c = search needs

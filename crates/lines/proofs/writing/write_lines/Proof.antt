@@ -5,7 +5,7 @@ use borrow.Author.Needs.{needs}
 use lib.ListN.{length}
 use Rattle.book.specs.Reading.{bookOf}
 use Rattle.stretches.specs.Ready.{Remembers}
-use Rattle.lines.proofs.Listings.{Accounting, accounting-start, accounting-room, accounting-turn, accounting-end, deciding-low}
+use Rattle.lines.proofs.Listings.{Accounting, accounting-start, accounting-room, accounting-turn, accounting-end, deciding-here}
 use Rattle.stretches.proofs.Scans.{rights-of}
 use Rattle.stretches.proofs.Remembering.{remembers-start}
 use Rattle.lines.proofs.writing.write_lines.Statement.{statement}
@@ -46,9 +46,9 @@ lines-at-requires c κs =
     let d = c .before .deciding-at in
     let h : l .i < length (a .tape .now) = c .before .before .before .before .before .loop-test .taken in
     let seen = rights-of (a .book .now) (a .tape .now) (a .rows .now) (a .sets .now) (a .scratch .now) (s .pre .1 .0) in
-    let low = deciding-low (a .book .now) (a .tape .now) (a .rows .now) (a .sets .now) (a .scratch .now) (a .lines .now) (s .pre .1 .0) (l .lines) (l .at) (l .d) (l .k) (l .i) (l .inv .0) (d .result) (d .ensures .0) in
+    let decides = deciding-here (a .book .now) (a .tape .now) (a .rows .now) (a .sets .now) (a .scratch .now) (a .lines .now) (s .pre .1 .0) (l .lines) (l .at) (l .d) (l .k) (l .i) (l .inv .0) (d .result) (d .ensures .0) in
     let room = accounting-room (a .book .now) (a .tape .now) (a .rows .now) (a .sets .now) (a .scratch .now) (a .lines .now) (s .pre .1 .0) (l .lines) (l .at) (l .d) (l .k) (l .i) (l .inv .0) (d .result) (d .ensures .0) h in
-    (s .pre .0, (seen, ((omega arith, l .inv .0 .left .is), ((s .pre .1 .0 .tape-fits, low), room))))
+    (s .pre .0, (seen, ((omega arith, l .inv .0 .left .is), ((s .pre .1 .0 .tape-fits, decides), room))))
 
 shared-slice-read-left-entry : tie.Need-shared-slice-read-left-entry Inv-loop μ-loop
 shared-slice-read-left-entry c = search needs
