@@ -43,7 +43,8 @@ module _ (b : Rules) (t : List ℕ) where
   unfolding decidingAt
   deciding-fresh i c h = rw (le-ltb i (c .end) h)
 
-  pub deciding-new : (i : ℕ) (c : Deciding) (end rule : ℕ) → c .end ≤ i → TakenHere b t i end rule → record { start = i; end = end; rule = rule } ≡ decidingAt b t i c
+  pub deciding-new : (i : ℕ) (c : Deciding) (end rule : ℕ) → c .end ≤ i → TakenHere b t i end rule
+      → record { start = i; end = end; rule = rule } ≡ decidingAt b t i c
   deciding-new i c end rule h k = (λ x. record { start = i; end = k .far x; rule = (k .who ∙ ap (ruleOf b t i) (k .far)) x }) ∙ sym (deciding-fresh i c h)
 
   pub deciding-start : decidingAt b t 0 (record { start = 0; end = 0; rule = 0 }) ≡ decider b t (over b t 0)
@@ -52,7 +53,8 @@ module _ (b : Rules) (t : List ℕ) where
   pub deciding-turn : (i : ℕ) → decidingAt b t (suc i) (decider b t (over b t i)) ≡ decider b t (over b t (suc i))
   deciding-turn i = by-cases (decLt (suc i) (over b t i .end))
       (λ h. sym (deciding-in (suc i) (decider b t (over b t i)) h) ∙ ap (decider b t) (sym (over-suc b t i ∙ cover-in b t (suc i) (over b t i) h)))
-      (λ h. deciding-fresh (suc i) (decider b t (over b t i)) (omega arith) ∙ ap (decider b t) (sym (over-suc b t i ∙ cover-new b t (suc i) (over b t i) (omega arith))))
+      (λ h. deciding-fresh (suc i) (decider b t (over b t i)) (omega arith)
+      ∙ ap (decider b t) (sym (over-suc b t i ∙ cover-new b t (suc i) (over b t i) (omega arith))))
 
   -- the lines of a start, where what stands over it decides
   lines-here : (i : ℕ) (x : List ℕ) (s : Stretch) → linesAt b t i x s ≡ startLines b t i (decider b t s)
@@ -72,7 +74,9 @@ module _ (book t rows sets scratch l₀ : List ℕ) (ready : Ready book t rows s
   unfolding account
   accounting-start h = record {
     within = omega arith;
-    written = subst (Written (account (rulesIn book) t) l₀ 0 l₀ 0) (from-all (rulesIn book) t (linesAt (rulesIn book) t)) (written-start (account (rulesIn book) t) l₀ 0 (omega arith));
+    written =
+        subst (Written (account (rulesIn book) t) l₀ 0 l₀ 0) (from-all (rulesIn book) t (linesAt (rulesIn book) t))
+        (written-start (account (rulesIn book) t) l₀ 0 (omega arith));
     next = deciding-start (rulesIn book) t;
     left = left-start book t rows sets scratch ready;
   }
@@ -92,13 +96,17 @@ module _ (book t rows sets scratch l₀ : List ℕ) (ready : Ready book t rows s
             (lines-here (rulesIn book) t i (getD t i 0 ∷ []) (over (rulesIn book) t i) ∙ ap (startLines (rulesIn book) t i) (sym decides))
 
         pub accounting-room : LinesFit (startLines (rulesIn book) t i d) at l
-        accounting-room = written-room (account (rulesIn book) t) l₀ 0 l at (from (rulesIn book) t (linesAt (rulesIn book) t) i) (was .written) (startLines (rulesIn book) t i d) (from (rulesIn book) t (linesAt (rulesIn book) t) (suc i)) step
+        accounting-room =
+            written-room (account (rulesIn book) t) l₀ 0 l at (from (rulesIn book) t (linesAt (rulesIn book) t) i) (was .written)
+            (startLines (rulesIn book) t i d) (from (rulesIn book) t (linesAt (rulesIn book) t) (suc i)) step
 
         pub accounting-turn : (at′ k′ : ℕ) (l′ : List ℕ) → LinesPut (startLines (rulesIn book) t i d) at l at′ l′ → k′ ≡ leftEntry rows k (getD t i 0)
             → Accounting book t sets l₀ l′ at′ d k′ (i + 1)
         accounting-turn at′ k′ l′ did g = record {
           within = omega arith;
-          written = rw add-one (written-turn (account (rulesIn book) t) l₀ 0 l at (from (rulesIn book) t (linesAt (rulesIn book) t) i) (was .written) (startLines (rulesIn book) t i d) (from (rulesIn book) t (linesAt (rulesIn book) t) (suc i)) step at′ l′ did);
+          written =
+              rw add-one (written-turn (account (rulesIn book) t) l₀ 0 l at (from (rulesIn book) t (linesAt (rulesIn book) t) i) (was .written)
+              (startLines (rulesIn book) t i d) (from (rulesIn book) t (linesAt (rulesIn book) t) (suc i)) step at′ l′ did);
           next = rw (add-one, decides) (deciding-turn (rulesIn book) t i);
           left = left-turn book t rows sets scratch ready k i k′ inside (was .left) g;
         }
@@ -111,7 +119,8 @@ module _ (book t rows sets scratch l₀ : List ℕ) (ready : Ready book t rows s
         let s : Stretch = over R t (length t) in
         let none : from R t (linesAt R t) i ≡ [] =
         ap (from R t (linesAt R t)) z ∙ from-last R t (linesAt R t) ∙ lines-here R t (length t) [] s
-        ∙ end-start R t (length t) (decider R t s) (no-empty book (ready .accepted)) (omega arith) ∙ end-end R t (length t) (decider R t s) (length t) (omega arith) in
+        ∙ end-start R t (length t) (decider R t s) (no-empty book (ready .accepted)) (omega arith)
+        ∙ end-end R t (length t) (decider R t s) (length t) (omega arith) in
         let W : List ℕ = wordsIn (account R t) in
         written-end (account R t) l₀ 0 l at (from R t (linesAt R t) i) (was .written) none .lines ∙ ap (λ (n : ℕ). W ++ drop n l₀) (zero-add (length W))
 
@@ -122,12 +131,14 @@ module _ (b : Rules) (t lines : List ℕ) (n : ℕ) (e : n ≡ length (account b
   unfolding linesDef
   short h =
       let g : length lines < lineLength * length (account b t) = omega arith in
-      rw (lt-leb (lineLength * length (account b t)) (length lines) g) (ap {B = AfterLines} (λ (k : ℕ). linesLeave (record { reply = 15; place = lineLength * k; candidates = 0 }) lines) e)
+      rw (lt-leb (lineLength * length (account b t)) (length lines) g)
+      (ap {B = AfterLines} (λ (k : ℕ). linesLeave (record { reply = 15; place = lineLength * k; candidates = 0 }) lines) e)
 
   pub room : n ≤ length lines / lineLength → length (wordsIn (account b t)) ≤ length lines
   room h = let w = words-length (account b t) in omega arith
 
-  pub long : n ≤ length lines / lineLength → (l : List ℕ) → l ≡ onto (wordsIn (account b t)) lines → linesLeave (record { reply = 0; place = 0; candidates = n }) l ≡ linesDef b t lines
+  pub long : n ≤ length lines / lineLength → (l : List ℕ) → l ≡ onto (wordsIn (account b t)) lines
+      → linesLeave (record { reply = 0; place = 0; candidates = n }) l ≡ linesDef b t lines
   unfolding linesDef
   long h l f =
       let g : lineLength * length (account b t) ≤ length lines = omega arith in

@@ -124,7 +124,8 @@ module _ (book t sets scratch : List ℕ) (seen : RightSets book t sets scratch)
   }
 
   module _ (j set n : ℕ) (was : Counting (bookOf book) t i j set n) where
-    module _ (inside : j < length t) (R X x : ℕ) (e : R ≡ rightSet sets (getD scratch (j + 1) 0)) (f : X ≡ focusNext (bookOf book) set (getD t j 0) R) (g : x ≡ hitCount (bookOf book) X R) where
+    module _ (inside : j < length t) (R X x : ℕ) (e : R ≡ rightSet sets (getD scratch (j + 1) 0)) (f : X ≡ focusNext (bookOf book) set (getD t j 0) R)
+        (g : x ≡ hitCount (bookOf book) X R) where
       hits-are : x ≡ endCount (rulesIn book) t i (suc j)
       unfolding hitCount
       hits-are = g ∙ sum-same (passes (bookOf book) X R) (λ (r : ℕ). cond (candidate (rulesIn book) t i (suc j) r) 1 0)
@@ -133,7 +134,9 @@ module _ (book t sets scratch : List ℕ) (seen : RightSets book t sets scratch)
       pub counting-turn : Counting (bookOf book) t i (j + 1) X (n + x)
       counting-turn = record {
         walk = pruned-turn book t sets scratch seen i j set (was .walk) inside R X e f;
-        tally = rw add-one (tally-turn (endCount (rulesIn book) t i) (suc (length t)) (startCount (rulesIn book) t i) (suc j) n (was .tally) (omega arith) x hits-are);
+        tally =
+            rw add-one (tally-turn (endCount (rulesIn book) t i) (suc (length t)) (startCount (rulesIn book) t i) (suc j) n (was .tally)
+            (omega arith) x hits-are);
       }
 
     pub counting-dead : set ≡ 0 → n ≡ startCount (rulesIn book) t i
@@ -167,7 +170,8 @@ module _ (book t rows sets scratch : List ℕ) (ready : Ready book t rows sets s
         let f = startCount (rulesIn book) t in let m = suc (length t) in let whole = length (account (rulesIn book) t) in
         tally-low f m whole (suc i) (n + x) (tally-turn f m whole i n (was .tally) (omega arith) x e)
 
-    pub total-turn : (x k′ : ℕ) → i < length t → x ≡ startCount (rulesIn book) t i → k′ ≡ leftEntry rows k (getD t i 0) → Totalled book t sets (n + x) k′ (i + 1)
+    pub total-turn : (x k′ : ℕ) → i < length t → x ≡ startCount (rulesIn book) t i → k′ ≡ leftEntry rows k (getD t i 0)
+        → Totalled book t sets (n + x) k′ (i + 1)
     total-turn x k′ h e g = record {
       within = omega arith;
       tally = rw add-one (tally-turn (startCount (rulesIn book) t) (suc (length t)) (length (account (rulesIn book) t)) i n (was .tally) (omega arith) x e);
@@ -184,7 +188,9 @@ module _ (book t rows sets scratch : List ℕ) (ready : Ready book t rows sets s
 
 module _ (b : Book) (o : Sound b) (t : List ℕ) (short : length t ≤ longestTape) where
   end-most : (i j : ℕ) → endCount (rules b) t i j ≤ mostRules
-  end-most i j = let g = sum-most (λ (r : ℕ). cond (candidate (rules b) t i j r) 1 0) 1 (λ r. one (candidate (rules b) t i j r)) 0 (length (b .words)) in omega (arith, g, o .rules)
+  end-most i j =
+      let g = sum-most (λ (r : ℕ). cond (candidate (rules b) t i j r) 1 0) 1 (λ r. one (candidate (rules b) t i j r)) 0 (length (b .words)) in
+      omega (arith, g, o .rules)
     where
       one : (c : Bool) → cond c 1 0 ≤ 1
       one true = omega arith
@@ -196,4 +202,5 @@ module _ (b : Book) (o : Sound b) (t : List ℕ) (short : length t ≤ longestTa
 
   pub account-most : length (account (rules b) t) ≤ mostRules * suc longestTape * suc longestTape
   unfolding startCount
-  account-most = let g = sum-most (startCount (rules b) t) (mostRules * suc longestTape) start-most 0 (suc (length t)) in omega (arith, g, account-length (rules b) t)
+  account-most =
+      let g = sum-most (startCount (rules b) t) (mostRules * suc longestTape) start-most 0 (suc (length t)) in omega (arith, g, account-length (rules b) t)

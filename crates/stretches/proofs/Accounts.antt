@@ -1,6 +1,7 @@
 -- The account, empty candidates too: each candidate once and nothing else, in order, with its verdict. Assumes nothing.
 use Prim.Native.Nat.{ℕ, suc, _+_, _-_, _≤_, _<_}
 use mathlib.Core.List.{List, [], _∷_, map, List·Memᴰ}
+use mathlib.Core.Bool.{Bool}
 use mathlib.Core.Path.{_≡_, refl, subst, subst₂, sym, ap, _∙_}
 use mathlib.Core.Logic.{_↔_, by-cases}
 use native.Mathlib.Omega.{arith}
@@ -23,8 +24,18 @@ module _ (b : Rules) (t : List ℕ) where
   abbrev pub lineAt : ℕ → ℕ → ℕ → Line
   lineAt i j r = lineFor b t i j r (over b t i)
 
+  -- for each start the ends from it on, and for each end the rules
+  abbrev found : ℕ → ℕ → ℕ → Bool
+  found i j r = candidate b t i j r
+
+  abbrev firstEnd : ℕ → ℕ
+  firstEnd i = i
+
+  abbrev ends : ℕ → ℕ
+  ends i = suc (length t) - i
+
   abbrev pub allLines : List Line
-  allLines = lines (λ (i j r : ℕ). candidate b t i j r) lineAt (λ (i : ℕ). i) (λ (i : ℕ). (suc (length t) - i)) (suc (length t)) (length (b .words))
+  allLines = lines found lineAt firstEnd ends (suc (length t)) (length (b .words))
 
   pub account-lines : account b t ≡ allLines
   unfolding account
@@ -32,7 +43,7 @@ module _ (b : Rules) (t : List ℕ) where
 
   account-out : (l : Line) → List·Memᴰ l (account b t) → (i j r : ℕ) × Candidate b t i j r × (l ≡ lineAt i j r)
   account-out l m =
-      let z = lines-out (λ (i j r : ℕ). candidate b t i j r) lineAt (λ (i : ℕ). i) (λ (i : ℕ). (suc (length t) - i)) (suc (length t)) (length (b .words)) l (subst (List·Memᴰ l) account-lines m) in
+      let z = lines-out found lineAt firstEnd ends (suc (length t)) (length (b .words)) l (subst (List·Memᴰ l) account-lines m) in
       let x = z .3 in
       let a = x .start in
       let c = x .high in
@@ -43,7 +54,7 @@ module _ (b : Rules) (t : List ℕ) where
       let a = c .ordered in
       let d = c .inside in
       subst (List·Memᴰ (lineAt i j r)) (sym account-lines)
-      (lines-in (λ (i j r : ℕ). candidate b t i j r) lineAt (λ (i : ℕ). i) (λ (i : ℕ). (suc (length t) - i)) (suc (length t)) (length (b .words)) i j r (lineAt i j r)
+      (lines-in found lineAt firstEnd ends (suc (length t)) (length (b .words)) i j r (lineAt i j r)
       (record { start = omega arith; low = a; high = omega arith; known = c .known; holds = c .holds; line-is = refl }))
 
   -- (a) sound and complete: the lines are those of the candidates
@@ -59,7 +70,9 @@ module _ (b : Rules) (t : List ℕ) where
 
   -- (b) strictly sorted by start, end, rule
   pub account-sorted : Sorted (account b t)
-  account-sorted = subst Sorted (sym account-lines) (lines-sorted (λ (i j r : ℕ). candidate b t i j r) lineAt (λ (i : ℕ). i) (λ (i : ℕ). (suc (length t) - i)) (suc (length t)) (length (b .words)) (record { start-is = λ i j r. refl; end-is = λ i j r. refl; rule-is = λ i j r. refl }))
+  account-sorted =
+      subst Sorted (sym account-lines) (lines-sorted found lineAt firstEnd ends (suc (length t)) (length (b .words))
+      (record { start-is = λ i j r. refl; end-is = λ i j r. refl; rule-is = λ i j r. refl }))
 
   -- (c) the verdicts
   abbrev ruled : ℕ → ℕ → ℕ
@@ -142,13 +155,17 @@ module _ (b : Rules) (t : List ℕ) where
   line-judged i j r c (alone m o) = absurd (m j (record { rule = r; cand = c }))
 
   pub account-judged : (l : Line) → List·Memᴰ l (account b t) → Judged b t l
-  account-judged l m = let z = account-out l m in subst (Judged b t) (sym (z .4)) (line-judged (z .0) (z .1) (z .2) (z .3) (place b t (z .0) (let p = z .3 .ordered in let q = z .3 .inside in omega arith)))
+  account-judged l m =
+      let z = account-out l m in
+      subst (Judged b t) (sym (z .4)) (line-judged (z .0) (z .1) (z .2) (z .3)
+      (place b t (z .0) (let p = z .3 .ordered in let q = z .3 .inside in omega arith)))
 
   -- (d) the lines with verdict 0 are the taken stretches in order
   abbrev from : ℕ → List Line
-  from = linesFrom (λ (i j r : ℕ). candidate b t i j r) lineAt (λ (i : ℕ). i) (λ (i : ℕ). (suc (length t) - i)) (suc (length t)) (length (b .words))
+  from = linesFrom found lineAt firstEnd ends (suc (length t)) (length (b .words))
 
-  zero-one : (i j r : ℕ) → i ≤ j → j < i + (suc (length t) - i) → r < length (b .words) → i ≤ length t → T (candidate b t i j r) → lineAt i j r .verdict ≡ 0 → Walked b t i j × (r ≡ ruled i j)
+  zero-one : (i j r : ℕ) → i ≤ j → j < i + (suc (length t) - i) → r < length (b .words) → i ≤ length t → T (candidate b t i j r) → lineAt i j r .verdict ≡ 0
+      → Walked b t i j × (r ≡ ruled i j)
   zero-one i j r h k g n c v =
       let z = line-judged i j r (record { ordered = h; inside = omega arith; known = g; holds = c }) (place b t i n) .taken-one .0 v in
       (out (z .0), z .1)
@@ -169,7 +186,8 @@ module _ (b : Rules) (t : List ℕ) where
       let R = rule-first b t i e c in
       let k = R .high in
       taken-each (λ (j : ℕ). each (λ (r : ℕ). keep (candidate b t i j r) (lineAt i j r)) 0 (length (b .words))) i (suc (length t) - i)
-      ∙ each-only (λ (j : ℕ). takenLines (each (λ (r : ℕ). keep (candidate b t i j r) (lineAt i j r)) 0 (length (b .words)))) i (suc (length t) - i) e a (omega arith) (λ j p q x.
+      ∙ each-only (λ (j : ℕ). takenLines (each (λ (r : ℕ). keep (candidate b t i j r) (lineAt i j r)) 0 (length (b .words)))) i (suc (length t) - i) e a
+      (omega arith) (λ j p q x.
       taken-each (λ (r : ℕ). keep (candidate b t i j r) (lineAt i j r)) 0 (length (b .words))
       ∙ each-none (λ (r : ℕ). takenLines (keep (candidate b t i j r) (lineAt i j r))) 0 (length (b .words)) (λ r u v.
       taken-not (candidate b t i j r) (lineAt i j r) (λ y z. x (walked-one b t (zero-one i j r p q (omega arith) n y z .0) w))))
@@ -188,7 +206,8 @@ module _ (b : Rules) (t : List ℕ) where
   account-taken =
       ap takenLines account-lines
       ∙ taken-each from 0 (suc (length t))
-      ∙ each-same (λ (i : ℕ). takenLines (from i)) (λ (i : ℕ). map (lineOf b t) (tk b t i)) 0 (suc (length t)) (λ i h k. let g : i ≤ length t = omega arith in lines-at i g (place b t i g))
+      ∙ each-same (λ (i : ℕ). takenLines (from i)) (λ (i : ℕ). map (lineOf b t) (tk b t i)) 0 (suc (length t))
+      (λ i h k. let g : i ≤ length t = omega arith in lines-at i g (place b t i g))
       ∙ sym (map-each (lineOf b t) (tk b t) 0 (suc (length t)))
       ∙ ap (map (lineOf b t)) (sym (taken-list b t))
 

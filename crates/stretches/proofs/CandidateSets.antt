@@ -39,13 +39,16 @@ module _ (b : Rules) (t : List ℕ) (i : ℕ) where
 
 module _ (b : Book) (h : Sound b) (t : List ℕ) where
   -- the contexts by the sets, the focus language itself
-  pub candidate-sets : (i j r : ℕ) → candidate (rules b) t i j r ≡ (accepts b r focusPart (slice i j t) && meetsAccept b r leftPart (leftAt b t i) && meetsStart b r rightPart (rightAt b t j))
+  pub candidate-sets : (i j r : ℕ)
+      → candidate (rules b) t i j r
+      ≡ (accepts b r focusPart (slice i j t) && meetsAccept b r leftPart (leftAt b t i) && meetsStart b r rightPart (rightAt b t j))
   unfolding candidate
   candidate-sets i j r = rw (left-holds b h t r i, right-holds b h t r j)
 
   module _ (i : ℕ) where
     -- a stretch is a candidate of r exactly if both tests pass
-    pub candidate-test : (r j : ℕ) → i ≤ j → candidate (rules b) t i j r ≡ (meetsAccept b r focusPart (focusAt b t i j) && meetsStart b r rightPart (rightAt b t j))
+    pub candidate-test : (r j : ℕ) → i ≤ j
+        → candidate (rules b) t i j r ≡ (meetsAccept b r focusPart (focusAt b t i j) && meetsStart b r rightPart (rightAt b t j))
     unfolding candidate
     candidate-test r j g = focus-test b h t i j r g
 

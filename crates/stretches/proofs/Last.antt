@@ -15,7 +15,8 @@ use Rattle.stretches.proofs.Lists.{miss, hit}
 -- none passes
 pub last-none : (p : ℕ → Bool) (a n d : ℕ) → ((x : ℕ) → a ≤ x → x < a + n → T (p x) → ⊥) → lastOf p (upFrom a n) d ≡ d
 last-none p a zero d h = refl
-last-none p a (suc n) d h = last-none p (suc a) n (cond (p a) a d) (λ x g k t. h x (omega arith) (omega arith) t) ∙ miss (p a) a d (λ t. h a (omega arith) (omega arith) t)
+last-none p a (suc n) d h =
+    last-none p (suc a) n (cond (p a) a d) (λ x g k t. h x (omega arith) (omega arith) t) ∙ miss (p a) a d (λ t. h a (omega arith) (omega arith) t)
 
 -- one number more
 pub last-snoc : (p : ℕ → Bool) (a n d : ℕ) → lastOf p (upFrom a (suc n)) d ≡ cond (p (a + n)) (a + n) (lastOf p (upFrom a n) d)

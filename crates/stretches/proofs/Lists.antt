@@ -1,6 +1,7 @@
 -- Laws of tests, of a list made number by number, and of what is kept. Assumes nothing.
 use Prim.Native.Nat.{ℕ, zero, suc, _+_, _≤_, _<_}
-use mathlib.Core.List.{List, [], _∷_, _++_, map, map-append, append-nil, append-assoc, List·Memᴰ, List·Memᴰ·head, Memᴰ·append-left, Memᴰ·append-right, List·Memᴰ·append-cases, List·Memᴰ·eq-of-singleton}
+use mathlib.Core.List.{List, [], _∷_, _++_, map, map-append, append-nil, append-assoc, List·Memᴰ, List·Memᴰ·head, Memᴰ·append-left, Memᴰ·append-right}
+use mathlib.Core.List.{List·Memᴰ·append-cases, List·Memᴰ·eq-of-singleton}
 use mathlib.Core.Bool.{Bool, true, false, cond}
 use mathlib.Core.Path.{_≡_, refl, subst, ap, ap₂, _∙_}
 use mathlib.Core.Logic.{⊎-elim, _≢_, by-cases}
@@ -76,7 +77,8 @@ pub each-only {ℓ} : {A : Type ℓ} (f : ℕ → List A) (a n k : ℕ) → a �
 each-only f a zero k h g z = absurd (omega arith)
 each-only f a (suc n) k h g z = by-cases (ℕ-discrete a k)
     (λ e. ap (λ x. f a ++ x) (each-none f (suc a) n (λ x i j. z x (omega arith) (omega arith) (omega arith))) ∙ append-nil (f a) ∙ ap f e)
-    (λ e. ap (λ x. x ++ each f (suc a) n) (z a (omega arith) (omega arith) e) ∙ each-only f (suc a) n k (omega arith) (omega arith) (λ x i j. z x (omega arith) (omega arith)))
+    (λ e. ap (λ x. x ++ each f (suc a) n) (z a (omega arith) (omega arith) e)
+    ∙ each-only f (suc a) n k (omega arith) (omega arith) (λ x i j. z x (omega arith) (omega arith)))
 
 pub map-each {ℓ κ} : {A : Type ℓ} {B : Type κ} (h : A → B) (f : ℕ → List A) (a n : ℕ) → map h (each f a n) ≡ each (λ (k : ℕ). map h (f k)) a n
 map-each h f a zero = refl
@@ -87,7 +89,8 @@ taken-append : (xs ys : List Line) → takenLines (xs ++ ys) ≡ takenLines xs +
 taken-append [] ys = refl
 taken-append (x ∷ xs) ys = go (eqb (x .verdict) 0) (taken-append xs ys)
   where
-    go : (c : Bool) → takenLines (xs ++ ys) ≡ takenLines xs ++ takenLines ys → cond c (x ∷ takenLines (xs ++ ys)) (takenLines (xs ++ ys)) ≡ cond c (x ∷ takenLines xs) (takenLines xs) ++ takenLines ys
+    go : (c : Bool) → takenLines (xs ++ ys) ≡ takenLines xs ++ takenLines ys
+        → cond c (x ∷ takenLines (xs ++ ys)) (takenLines (xs ++ ys)) ≡ cond c (x ∷ takenLines xs) (takenLines xs) ++ takenLines ys
     go true e = ap (λ z. x ∷ z) e
     go false e = e
 

@@ -42,13 +42,16 @@ sound-no-empty : (b : Book) → Sound b → NoEmpty (rules b)
 unfolding accepts isStart isAccept leads
 sound-no-empty b h = record {
   none = λ r x.
-      let p = any-up (λ (p : ℕ). isStart b r focusPart p && someState b (λ (q : ℕ). isAccept b r focusPart q && leads (b .arcs) p [] q)) 0 (length (b .states)) .0 x in
+      let n = length (b .states) in
+      let accepting : ℕ → ℕ → Bool = λ s q. isAccept b r focusPart q && leads (b .arcs) s [] q in
+      let p = any-up (λ (s : ℕ). isStart b r focusPart s && someState b (accepting s)) 0 n .0 x in
       let s = p .0 in
       let R = eqb (stateOf b s .rule) r in
-      let S = and-left (isStart b r focusPart s) (someState b (λ (q : ℕ). isAccept b r focusPart q && leads (b .arcs) s [] q)) (p .3) in
-      let q = any-up (λ (q : ℕ). isAccept b r focusPart q && leads (b .arcs) s [] q) 0 (length (b .states)) .0 (and-right (isStart b r focusPart s) (someState b (λ (q : ℕ). isAccept b r focusPart q && leads (b .arcs) s [] q)) (p .3)) in
+      let S = and-left (isStart b r focusPart s) (someState b (accepting s)) (p .3) in
+      let q = any-up (accepting s) 0 n .0 (and-right (isStart b r focusPart s) (someState b (accepting s)) (p .3)) in
       let e = eqb→eq s (q .0) (and-right (isAccept b r focusPart (q .0)) (leads (b .arcs) s [] (q .0)) (q .3)) in
-      let A = subst (λ (z : ℕ). T (isAccept b r focusPart z)) (sym e) (and-left (isAccept b r focusPart (q .0)) (leads (b .arcs) s [] (q .0)) (q .3)) in
+      let here = and-left (isAccept b r focusPart (q .0)) (leads (b .arcs) s [] (q .0)) (q .3) in
+      let A = subst (λ (z : ℕ). T (isAccept b r focusPart z)) (sym e) here in
       let l = p .2 in
       focus-one (stateOf b s) (h .state s (omega arith)) (and-right R (starts b focusPart s) S) (and-right R (ends b focusPart s) A);
 }
@@ -84,7 +87,8 @@ module _ (b : Rules) (t : List ℕ) where
     -- a start is taken where the longest is past it
     pub fresh-past : (i : ℕ) → fresh b t i ≡ record { start = i; end = longest b t i; taken = ltb i (longest b t i) }
     fresh-past i = ap (λ (c : Bool). record { start = i; end = longest b t i; taken = c })
-        (same-test (someRule b t i (longest b t i)) (ltb i (longest b t i)) (to, λ x. test-some b t i (longest b t i) (some-far b t i (ltb→lt i (longest b t i) x))))
+        (same-test (someRule b t i (longest b t i)) (ltb i (longest b t i))
+        (to, λ x. test-some b t i (longest b t i) (some-far b t i (ltb→lt i (longest b t i) x))))
       where
         to : T (someRule b t i (longest b t i)) → T (ltb i (longest b t i))
         to x = by-cases (decLt i (longest b t i)) (λ h. lt→ltb i (longest b t i) h)

@@ -42,7 +42,8 @@ putting-turn each at l₀ l n was h room = record {
     one r g (yes e) = rw e (getD-set-same l (at + n) (getD each n 0) 0 (omega (arith, was .same)))
     one r g (no e) = other (at + r) (λ z. e (omega arith)) ∙ was .here r (omega arith)
 
-pub putting-end : (part flag : ℕ) (states : List State) (each : List ℕ) (at : ℕ) (l₀ l : List ℕ) (n : ℕ) → EachMask part flag states each → Putting each at l₀ l n → mostRules ≤ n
+pub putting-end : (part flag : ℕ) (states : List State) (each : List ℕ) (at : ℕ) (l₀ l : List ℕ) (n : ℕ) → EachMask part flag states each
+    → Putting each at l₀ l n → mostRules ≤ n
     → KindPut part flag states at l₀ l
 putting-end part flag states each at l₀ l n m was h =
     let w = was .within in

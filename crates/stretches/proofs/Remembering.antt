@@ -28,7 +28,8 @@ remembers-start b = record {
 }
 
 -- a step of this set on this symbol is found
-pub remembers-seen : (b : Book) (S A : List ℕ) (k x a : ℕ) → Remembers b S A → k < slotCount → getD S k 0 ≡ x → getD A k 0 ≡ a → getD S (afterStep k) 0 ≡ focusStep b x a
+pub remembers-seen : (b : Book) (S A : List ℕ) (k x a : ℕ) → Remembers b S A → k < slotCount → getD S k 0 ≡ x → getD A k 0 ≡ a
+    → getD S (afterStep k) 0 ≡ focusStep b x a
 remembers-seen b S A k x a was h e f = was .step k h ∙ ap₂ (focusStep b) e f
 
 -- one is put in its place
@@ -48,7 +49,8 @@ module _ (b : Book) (S A : List ℕ) (k x a y : ℕ) (was : Remembers b S A) (h 
       one m l (yes z) =
           rw z (getD-set-same (set S k x) (afterStep k) y 0 (omega (arith, was .steps-room, length-set S k x))
           ∙ e
-          ∙ sym (ap₂ (focusStep b) (before k h ∙ getD-set-same S k x 0 (omega (arith, was .steps-room))) (getD-set-same A k a 0 (omega (arith, was .symbols-room)))))
+          ∙ sym (ap₂ (focusStep b) (before k h ∙ getD-set-same S k x 0 (omega (arith, was .steps-room)))
+          (getD-set-same A k a 0 (omega (arith, was .symbols-room)))))
       one m l (no z) =
           getD-set-other (set S k x) (afterStep k) (afterStep m) y 0 (λ q. z (omega arith))
           ∙ getD-set-other S k (afterStep m) x 0 (λ q. omega arith)

@@ -29,7 +29,13 @@ module _ {K : ℕ → ℕ → Type 0} (W : GreedyWalk K) where
   far-in i a = record { cand = a .cand; longest = λ k x. W .long i k x }
 
   pub among-out : {i j : ℕ} → TakenAmong K i j → At W i × (j ≡ W .far i)
-  among-out {i} {j} (first m f) = (record { free = ⊎-elim (λ g. g) (λ h. let l = m .least (h .0) (W .far (h .0)) tt (h .2) in let g = h .3 in absurd (omega arith)) (W .around i); cand = W .best i j (f .cand) }, far-eq i j f)
+  among-out {i} {j} (first m f) = (
+    record {
+      free = ⊎-elim (λ g. g) (λ h. let l = m .least (h .0) (W .far (h .0)) tt (h .2) in let g = h .3 in absurd (omega arith)) (W .around i);
+      cand = W .best i j (f .cand);
+    },
+    far-eq i j f,
+  )
   among-out (next {i = i} {j = j} {k = k} {l = l} x m f) = go (among-out x)
     where
       go : At W i × (j ≡ W .far i) → At W k × (l ≡ W .far k)
@@ -58,7 +64,8 @@ module _ {K : ℕ → ℕ → Type 0} (W : GreedyWalk K) where
           → ((x : ℕ) → x < suc i → At W x → ⊥) ⊎ ((s : ℕ) × At W s × (s < suc i) × ((x : ℕ) → s < x → x < suc i → At W x → ⊥))
       go (yes a) d = inr (i, a, omega arith, λ x h k z. omega arith)
       go (no n) (inl d) = inl (λ x h a. by-cases (ℕ-discrete x i) (λ e. n (subst (At W) e a)) (λ e. d x (omega arith) a))
-      go (no n) (inr d) = let l = d .2 in inr (d .0, d .1, omega arith, λ x h k a. by-cases (ℕ-discrete x i) (λ e. n (subst (At W) e a)) (λ e. d .3 x h (omega arith) a))
+      go (no n) (inr d) =
+          let l = d .2 in inr (d .0, d .1, omega arith, λ x h k a. by-cases (ℕ-discrete x i) (λ e. n (subst (At W) e a)) (λ e. d .3 x h (omega arith) a))
 
   least-first : (i : ℕ) → ((x : ℕ) → x < i → At W x → ⊥) → (k l : ℕ) → K k l → i ≤ k
   least-first i n k l x = by-cases (decLe i k) (λ g. g) (λ g. absurd (⊎-elim
@@ -83,7 +90,8 @@ module _ {K : ℕ → ℕ → Type 0} (W : GreedyWalk K) where
       (λ n. first (record { allowed = tt; least = λ k l p x. least-first i n k l x }) (far-in i a))
       (λ z. let l = z .2 in
       let f : W .far (z .0) ≤ i = by-cases (decLe (W .far (z .0)) i) (λ g. g) (λ g. absurd (W .apart (z .0) i (z .1 .free) l (omega arith) (a .free))) in
-      next (among-below m (z .0) (omega arith) (z .1)) (record { allowed = (f, omega arith); least = λ k j p x. least-next (z .0) i (z .1) (z .3) k j (p .0) (p .1) x }) (far-in i a))
+      next (among-below m (z .0) (omega arith) (z .1))
+      (record { allowed = (f, omega arith); least = λ k j p x. least-next (z .0) i (z .1) (z .3) k j (p .0) (p .1) x }) (far-in i a))
       (before i)
 
   pub among-in : (i : ℕ) → At W i → TakenAmong K i (W .far i)

@@ -20,7 +20,8 @@ put-line-requires c κs =
     let fits = s .pre .1 .0 in
     let line = lineBy (a .i) (a .j) (a .r) (a .d) in (
       (omega (arith, s .pre .0 .many, few, fits .0), fits .1, fits .2, fits .3),
-      kept-room (hit .result) (hits (bookOf (a .book .now)) (a .set) (a .right) (a .r)) line (a .at) (a .lines .now) (hit .ensures) (c .before .if1 .taken) (s .pre .1 .1),
+      kept-room (hit .result) (hits (bookOf (a .book .now)) (a .set) (a .right) (a .r)) line (a .at) (a .lines .now) (hit .ensures) (c .before .if1 .taken)
+          (s .pre .1 .1),
     )
 
 same-length : tie.Need-same-length

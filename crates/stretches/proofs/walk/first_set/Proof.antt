@@ -40,15 +40,18 @@ loop-less c = search needs
 
 loop-again : tie.Need-loop-again Inv-loop μ-loop
 loop-again c =
-    let a = c .before .before .before .before .before .before .args in
+    let s = c .before .before .before .before .before .before in
+    let a = s .args in
     let l = c .before .before .loop in
-    open-turn (bookOf (a .book .now)) (a .rules) (a .masks .now) (c .before .before .before .before .before .before .pre) (a .left) (l .rule) (l .out) (c .rule-starts .result) (l .inv) (c .before .loop-test .taken) (c .rule-starts .ensures)
+    open-turn (bookOf (a .book .now)) (a .rules) (a .masks .now) (s .pre) (a .left) (l .rule) (l .out) (c .rule-starts .result) (l .inv)
+    (c .before .loop-test .taken) (c .rule-starts .ensures)
 
 returns-2 : tie.Need-returns-2 Inv-loop μ-loop
 returns-2 c =
-    let a = c .before .before .before .before .before .args in
+    let s = c .before .before .before .before .before in
+    let a = s .args in
     let l = c .before .loop in
-    open-end (bookOf (a .book .now)) (a .rules) (a .masks .now) (c .before .before .before .before .before .pre) (a .left) (a .right) (l .rule) (l .out) (l .inv) (omega arith)
+    open-end (bookOf (a .book .now)) (a .rules) (a .masks .now) (s .pre) (a .left) (a .right) (l .rule) (l .out) (l .inv) (omega arith)
 
 pub first-set-spec : {M : Type 1} → statement M
 first-set-spec =
