@@ -1,4 +1,5 @@
--- The account of a tape, start after start, where one stretch decides at each position; and ACCOUNT's two answers after a build. Assumes nothing.
+-- The account of a tape, start after start, where one stretch decides at each position; ACCOUNT's two answers after a build, and what they leave.
+-- Assumes nothing.
 use Prim.Native.Nat.{ℕ, suc, _+_, _*_, _/_, _≤_, _<_}
 use mathlib.Core.Path.{_≡_, refl, sym, ap, _∙_, subst}
 use mathlib.Core.Logic.{by-cases}
@@ -7,18 +8,21 @@ use native.Mathlib.Omega.{arith}
 use native.Mathlib.Numerals.{add-one}
 use native.Mathlib.Nat.{zero-add}
 use native.Mathlib.Decide.{decLt}
-use borrow.Author.Tests.{lt-ltb, le-ltb, le-leb, lt-leb}
+use borrow.Author.Tests.{lt-ltb, le-ltb, le-leb, lt-leb, leb-true}
+use lib.Dec.{leb}
 use lib.ListN.{length, getD, drop}
-use Rattle.book.specs.Format.{symbolCount}
 use Rattle.book.specs.Language.{Rules, rulesIn}
+use Rattle.sets.specs.Tables.{leftEntry}
 use Rattle.stretches.specs.Candidates.{Stretch, longest, ruleOf}
 use Rattle.stretches.specs.Account.{Line, linesAt, account, lineLength, wordsIn}
 use Rattle.stretches.specs.Buffers.{onto}
-use Rattle.lines.specs.Listing.{AfterLines, linesLeave, linesDef}
+use Rattle.lines.specs.Listing.{AfterLines, linesLeave, wordsNeeded, linesDef}
 use Rattle.stretches.specs.Ready.{Ready}
 use Rattle.stretches.specs.Position.{TakenHere}
-use Rattle.lines.specs.Lines.{decider, decidingAt, startLines, LinesFit, LinesPut}
+use Rattle.lines.specs.Lines.{DecidesBy, decider, decidingAt, startLines, LinesFit, LinesPut}
 use Rattle.lines.specs.declared.writing.Deciding.{Deciding}
+use Rattle.stretches.proofs.Lists.{by-test}
+use Rattle.stretches.proofs.Onto.{onto-length}
 use Rattle.stretches.proofs.Walks.{over, over-suc, over-zero, cover-in, cover-new, stands}
 use Rattle.stretches.proofs.Counts.{words-length}
 use Rattle.stretches.proofs.NoEmpty.{no-empty}
@@ -39,7 +43,8 @@ module _ (b : Rules) (t : List ℕ) where
   unfolding decidingAt
   deciding-fresh i c h = rw (le-ltb i (c .end) h)
 
-  pub deciding-new : (i : ℕ) (c : Deciding) (end rule : ℕ) → c .end ≤ i → TakenHere b t i end rule → record { start = i; end = end; rule = rule } ≡ decidingAt b t i c
+  pub deciding-new : (i : ℕ) (c : Deciding) (end rule : ℕ) → c .end ≤ i → TakenHere b t i end rule
+      → record { start = i; end = end; rule = rule } ≡ decidingAt b t i c
   deciding-new i c end rule h k = (λ x. record { start = i; end = k .far x; rule = (k .who ∙ ap (ruleOf b t i) (k .far)) x }) ∙ sym (deciding-fresh i c h)
 
   pub deciding-start : decidingAt b t 0 (record { start = 0; end = 0; rule = 0 }) ≡ decider b t (over b t 0)
@@ -48,7 +53,8 @@ module _ (b : Rules) (t : List ℕ) where
   pub deciding-turn : (i : ℕ) → decidingAt b t (suc i) (decider b t (over b t i)) ≡ decider b t (over b t (suc i))
   deciding-turn i = by-cases (decLt (suc i) (over b t i .end))
       (λ h. sym (deciding-in (suc i) (decider b t (over b t i)) h) ∙ ap (decider b t) (sym (over-suc b t i ∙ cover-in b t (suc i) (over b t i) h)))
-      (λ h. deciding-fresh (suc i) (decider b t (over b t i)) (omega arith) ∙ ap (decider b t) (sym (over-suc b t i ∙ cover-new b t (suc i) (over b t i) (omega arith))))
+      (λ h. deciding-fresh (suc i) (decider b t (over b t i)) (omega arith)
+      ∙ ap (decider b t) (sym (over-suc b t i ∙ cover-new b t (suc i) (over b t i) (omega arith))))
 
   -- the lines of a start, where what stands over it decides
   lines-here : (i : ℕ) (x : List ℕ) (s : Stretch) → linesAt b t i x s ≡ startLines b t i (decider b t s)
@@ -64,52 +70,64 @@ pub record Accounting (book t sets l₀ l : List ℕ) (at : ℕ) (c : Deciding) 
   pub left : LeftNumber book t sets k i
 
 module _ (book t rows sets scratch l₀ : List ℕ) (ready : Ready book t rows sets scratch) where
-  pub accounting-start : length (wordsIn (account (rulesIn book) t)) ≤ length l₀ → Accounting book t sets l₀ l₀ 0 (record { start = 0; end = 0; rule = 0 }) 0 0
+  abbrev R : Rules
+  R = rulesIn book
+
+  abbrev lineFrom : ℕ → List Line
+  lineFrom = from R t (linesAt R t)
+
+  pub accounting-start : length (wordsIn (account R t)) ≤ length l₀ → Accounting book t sets l₀ l₀ 0 (record { start = 0; end = 0; rule = 0 }) 0 0
   unfolding account
   accounting-start h = record {
     within = omega arith;
-    written = subst (Written (account (rulesIn book) t) l₀ 0 l₀ 0) (from-all (rulesIn book) t (linesAt (rulesIn book) t)) (written-start (account (rulesIn book) t) l₀ 0 (omega arith));
-    next = deciding-start (rulesIn book) t;
+    written =
+        subst (Written (account R t) l₀ 0 l₀ 0) (from-all R t (linesAt R t))
+        (written-start (account R t) l₀ 0 (omega arith));
+    next = deciding-start R t;
     left = left-start book t rows sets scratch ready;
   }
 
   module _ (l : List ℕ) (at : ℕ) (c : Deciding) (k i : ℕ) (was : Accounting book t sets l₀ l at c k i) where
-    module _ (d : Deciding) (e : d ≡ decidingAt (rulesIn book) t i c) where
-      decides : d ≡ decider (rulesIn book) t (over (rulesIn book) t i)
+    module _ (d : Deciding) (e : d ≡ decidingAt R t i c) where
+      decides : d ≡ decider R t (over R t i)
       decides = e ∙ was .next
 
-      pub deciding-low : d .start ≤ i
-      deciding-low = omega (arith, ap (λ (x : Deciding). x .start) decides, stands (rulesIn book) t i .low)
+      pub deciding-here : DecidesBy i d
+      deciding-here = record { start = omega (arith, ap (λ (x : Deciding). x .start) decides, stands R t i .low) }
 
       module _ (inside : i < length t) where
-        step : from (rulesIn book) t (linesAt (rulesIn book) t) i ≡ startLines (rulesIn book) t i d ++ from (rulesIn book) t (linesAt (rulesIn book) t) (suc i)
-        step = from-step (rulesIn book) t (linesAt (rulesIn book) t) i inside
-            ∙ ap (λ (x : List Line). x ++ from (rulesIn book) t (linesAt (rulesIn book) t) (suc i))
-            (lines-here (rulesIn book) t i (getD t i 0 ∷ []) (over (rulesIn book) t i) ∙ ap (startLines (rulesIn book) t i) (sym decides))
+        step : lineFrom i ≡ startLines R t i d ++ lineFrom (suc i)
+        step = from-step R t (linesAt R t) i inside
+            ∙ ap (λ (x : List Line). x ++ lineFrom (suc i))
+            (lines-here R t i (getD t i 0 ∷ []) (over R t i) ∙ ap (startLines R t i) (sym decides))
 
-        pub accounting-room : LinesFit (startLines (rulesIn book) t i d) at l
-        accounting-room = written-room (account (rulesIn book) t) l₀ 0 l at (from (rulesIn book) t (linesAt (rulesIn book) t) i) (was .written) (startLines (rulesIn book) t i d) (from (rulesIn book) t (linesAt (rulesIn book) t) (suc i)) step
+        pub accounting-room : LinesFit (startLines R t i d) at l
+        accounting-room =
+            written-room (account R t) l₀ 0 l at (lineFrom i) (was .written)
+            (startLines R t i d) (lineFrom (suc i)) step
 
-        pub accounting-turn : (at′ k′ : ℕ) (l′ : List ℕ) → LinesPut (startLines (rulesIn book) t i d) at l at′ l′ → k′ ≡ getD rows (symbolCount * k + getD t i 0) 0
+        pub accounting-turn : (at′ k′ : ℕ) (l′ : List ℕ) → LinesPut (startLines R t i d) at l at′ l′ → k′ ≡ leftEntry rows k (getD t i 0)
             → Accounting book t sets l₀ l′ at′ d k′ (i + 1)
         accounting-turn at′ k′ l′ did g = record {
           within = omega arith;
-          written = rw add-one (written-turn (account (rulesIn book) t) l₀ 0 l at (from (rulesIn book) t (linesAt (rulesIn book) t) i) (was .written) (startLines (rulesIn book) t i d) (from (rulesIn book) t (linesAt (rulesIn book) t) (suc i)) step at′ l′ did);
-          next = rw (add-one, decides) (deciding-turn (rulesIn book) t i);
+          written =
+              rw add-one (written-turn (account R t) l₀ 0 l at (lineFrom i) (was .written)
+              (startLines R t i d) (lineFrom (suc i)) step at′ l′ did);
+          next = rw (add-one, decides) (deciding-turn R t i);
           left = left-turn book t rows sets scratch ready k i k′ inside (was .left) g;
         }
 
-    pub accounting-end : length t ≤ i → l ≡ onto (wordsIn (account (rulesIn book) t)) l₀
+    pub accounting-end : length t ≤ i → l ≡ onto (wordsIn (account R t)) l₀
     accounting-end h =
-        let R : Rules = rulesIn book in
         let w = was .within in
         let z : i ≡ length t = omega arith in
         let s : Stretch = over R t (length t) in
-        let none : from R t (linesAt R t) i ≡ [] =
-        ap (from R t (linesAt R t)) z ∙ from-last R t (linesAt R t) ∙ lines-here R t (length t) [] s
-        ∙ end-start R t (length t) (decider R t s) (no-empty book (ready .accepted)) (omega arith) ∙ end-end R t (length t) (decider R t s) (length t) (omega arith) in
+        let none : lineFrom i ≡ [] =
+        ap lineFrom z ∙ from-last R t (linesAt R t) ∙ lines-here R t (length t) [] s
+        ∙ end-start R t (length t) (decider R t s) (no-empty book (ready .accepted)) (omega arith)
+        ∙ end-end R t (length t) (decider R t s) (length t) (omega arith) in
         let W : List ℕ = wordsIn (account R t) in
-        written-end (account R t) l₀ 0 l at (from R t (linesAt R t) i) (was .written) none .lines ∙ ap (λ (n : ℕ). W ++ drop n l₀) (zero-add (length W))
+        written-end (account R t) l₀ 0 l at (lineFrom i) (was .written) none .lines ∙ ap (λ (n : ℕ). W ++ drop n l₀) (zero-add (length W))
 
 -- ---- the two answers
 
@@ -117,14 +135,31 @@ module _ (b : Rules) (t lines : List ℕ) (n : ℕ) (e : n ≡ length (account b
   pub short : length lines / lineLength < n → linesLeave (record { reply = 15; place = lineLength * n; candidates = 0 }) lines ≡ linesDef b t lines
   unfolding linesDef
   short h =
-      let g : length lines < lineLength * length (account b t) = omega arith in
-      rw (lt-leb (lineLength * length (account b t)) (length lines) g) (ap {B = AfterLines} (λ (k : ℕ). linesLeave (record { reply = 15; place = lineLength * k; candidates = 0 }) lines) e)
+      let g : length lines < wordsNeeded b t = omega arith in
+      rw (lt-leb (wordsNeeded b t) (length lines) g)
+      (ap {B = AfterLines} (λ (k : ℕ). linesLeave (record { reply = 15; place = lineLength * k; candidates = 0 }) lines) e)
 
   pub room : n ≤ length lines / lineLength → length (wordsIn (account b t)) ≤ length lines
   room h = let w = words-length (account b t) in omega arith
 
-  pub long : n ≤ length lines / lineLength → (l : List ℕ) → l ≡ onto (wordsIn (account b t)) lines → linesLeave (record { reply = 0; place = 0; candidates = n }) l ≡ linesDef b t lines
+  pub long : n ≤ length lines / lineLength → (l : List ℕ) → l ≡ onto (wordsIn (account b t)) lines
+      → linesLeave (record { reply = 0; place = 0; candidates = n }) l ≡ linesDef b t lines
   unfolding linesDef
   long h l f =
-      let g : lineLength * length (account b t) ≤ length lines = omega arith in
-      rw (le-leb (lineLength * length (account b t)) (length lines) g) (λ x. linesLeave (record { reply = 0; place = 0; candidates = e x }) (f x))
+      let g : wordsNeeded b t ≤ length lines = omega arith in
+      rw (le-leb (wordsNeeded b t) (length lines) g) (λ x. linesLeave (record { reply = 0; place = 0; candidates = e x }) (f x))
+
+-- ---- what they leave: no more lines than there is room for, and the account as long as it was
+
+module _ (b : Rules) (tape lines : List ℕ) where
+  pub lines-fit : lineLength * linesDef b tape lines .answer .candidates ≤ length lines
+  unfolding linesDef
+  lines-fit =
+      by-test (λ (x : AfterLines). lineLength * x .answer .candidates ≤ length lines) (leb (wordsNeeded b tape) (length lines)) _ _
+      (λ e. leb-true (wordsNeeded b tape) (length lines) e) (λ e. omega arith)
+
+  pub lines-kept : length (linesDef b tape lines .lines) ≡ length lines
+  unfolding linesDef
+  lines-kept =
+      by-test (λ (x : AfterLines). length (x .lines) ≡ length lines) (leb (wordsNeeded b tape) (length lines)) _ _
+      (λ e. onto-length (wordsIn (account b tape)) lines (omega (arith, leb-true (wordsNeeded b tape) (length lines) e, words-length (account b tape)))) (λ e. refl)

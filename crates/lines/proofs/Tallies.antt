@@ -8,13 +8,13 @@ use native.Mathlib.Numerals.{add-one}
 use native.Mathlib.Nat.{add-zero}
 use lib.Dec.{T}
 use lib.ListN.{length, getD}
-use Rattle.book.specs.Format.{symbolCount, mostRules}
+use Rattle.book.specs.Format.{mostRules}
 use Rattle.book.specs.Reading.{Book, bookOf}
 use Rattle.book.specs.Language.{Rules, rules, rulesIn}
 use Rattle.book.specs.Sound.{Sound}
 use Rattle.sets.specs.Sets.{leftAt}
 use Rattle.sets.specs.Focus.{focusFirst, focusNext}
-use Rattle.sets.specs.Numbering.{mostSets}
+use Rattle.sets.specs.Tables.{leftEntry, rightSet}
 use Rattle.stretches.specs.Candidates.{candidate}
 use Rattle.stretches.specs.Account.{account}
 use Rattle.stretches.specs.Sentences.{sum}
@@ -116,7 +116,7 @@ pub record Counting (b : Book) (t : List ℕ) (i j set n : ℕ) : Type 0 where
   pub tally : Tally (endCount (rules b) t i) (suc (length t)) (startCount (rules b) t i) (suc j) n
 
 module _ (book t sets scratch : List ℕ) (seen : RightSets book t sets scratch) (i : ℕ) where
-  pub counting-start : (L R F : ℕ) → i ≤ length t → L ≡ leftAt (bookOf book) t i → R ≡ getD sets (mostSets + getD scratch i 0) 0 → F ≡ focusFirst (bookOf book) L R
+  pub counting-start : (L R F : ℕ) → i ≤ length t → L ≡ leftAt (bookOf book) t i → R ≡ rightSet sets (getD scratch i 0) → F ≡ focusFirst (bookOf book) L R
       → Counting (bookOf book) t i i F 0
   counting-start L R F k e f g = record {
     walk = pruned-start book t sets scratch seen i L R F k e f g;
@@ -124,7 +124,8 @@ module _ (book t sets scratch : List ℕ) (seen : RightSets book t sets scratch)
   }
 
   module _ (j set n : ℕ) (was : Counting (bookOf book) t i j set n) where
-    module _ (inside : j < length t) (R X x : ℕ) (e : R ≡ getD sets (mostSets + getD scratch (j + 1) 0) 0) (f : X ≡ focusNext (bookOf book) set (getD t j 0) R) (g : x ≡ hitCount (bookOf book) X R) where
+    module _ (inside : j < length t) (R X x : ℕ) (e : R ≡ rightSet sets (getD scratch (j + 1) 0)) (f : X ≡ focusNext (bookOf book) set (getD t j 0) R)
+        (g : x ≡ hitCount (bookOf book) X R) where
       hits-are : x ≡ endCount (rulesIn book) t i (suc j)
       unfolding hitCount
       hits-are = g ∙ sum-same (passes (bookOf book) X R) (λ (r : ℕ). cond (candidate (rulesIn book) t i (suc j) r) 1 0)
@@ -133,7 +134,9 @@ module _ (book t sets scratch : List ℕ) (seen : RightSets book t sets scratch)
       pub counting-turn : Counting (bookOf book) t i (j + 1) X (n + x)
       counting-turn = record {
         walk = pruned-turn book t sets scratch seen i j set (was .walk) inside R X e f;
-        tally = rw add-one (tally-turn (endCount (rulesIn book) t i) (suc (length t)) (startCount (rulesIn book) t i) (suc j) n (was .tally) (omega arith) x hits-are);
+        tally =
+            rw add-one (tally-turn (endCount (rulesIn book) t i) (suc (length t)) (startCount (rulesIn book) t i) (suc j) n (was .tally)
+            (omega arith) x hits-are);
       }
 
     pub counting-dead : set ≡ 0 → n ≡ startCount (rulesIn book) t i
@@ -167,7 +170,8 @@ module _ (book t rows sets scratch : List ℕ) (ready : Ready book t rows sets s
         let f = startCount (rulesIn book) t in let m = suc (length t) in let whole = length (account (rulesIn book) t) in
         tally-low f m whole (suc i) (n + x) (tally-turn f m whole i n (was .tally) (omega arith) x e)
 
-    pub total-turn : (x k′ : ℕ) → i < length t → x ≡ startCount (rulesIn book) t i → k′ ≡ getD rows (symbolCount * k + getD t i 0) 0 → Totalled book t sets (n + x) k′ (i + 1)
+    pub total-turn : (x k′ : ℕ) → i < length t → x ≡ startCount (rulesIn book) t i → k′ ≡ leftEntry rows k (getD t i 0)
+        → Totalled book t sets (n + x) k′ (i + 1)
     total-turn x k′ h e g = record {
       within = omega arith;
       tally = rw add-one (tally-turn (startCount (rulesIn book) t) (suc (length t)) (length (account (rulesIn book) t)) i n (was .tally) (omega arith) x e);
@@ -184,7 +188,9 @@ module _ (book t rows sets scratch : List ℕ) (ready : Ready book t rows sets s
 
 module _ (b : Book) (o : Sound b) (t : List ℕ) (short : length t ≤ longestTape) where
   end-most : (i j : ℕ) → endCount (rules b) t i j ≤ mostRules
-  end-most i j = let g = sum-most (λ (r : ℕ). cond (candidate (rules b) t i j r) 1 0) 1 (λ r. one (candidate (rules b) t i j r)) 0 (length (b .words)) in omega (arith, g, o .rules)
+  end-most i j =
+      let g = sum-most (λ (r : ℕ). cond (candidate (rules b) t i j r) 1 0) 1 (λ r. one (candidate (rules b) t i j r)) 0 (length (b .words)) in
+      omega (arith, g, o .rules)
     where
       one : (c : Bool) → cond c 1 0 ≤ 1
       one true = omega arith
@@ -196,4 +202,5 @@ module _ (b : Book) (o : Sound b) (t : List ℕ) (short : length t ≤ longestTa
 
   pub account-most : length (account (rules b) t) ≤ mostRules * suc longestTape * suc longestTape
   unfolding startCount
-  account-most = let g = sum-most (startCount (rules b) t) (mostRules * suc longestTape) start-most 0 (suc (length t)) in omega (arith, g, account-length (rules b) t)
+  account-most =
+      let g = sum-most (startCount (rules b) t) (mostRules * suc longestTape) start-most 0 (suc (length t)) in omega (arith, g, account-length (rules b) t)

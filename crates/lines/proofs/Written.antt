@@ -13,12 +13,12 @@ use Rattle.book.specs.Reading.{Book, bookOf}
 use Rattle.book.specs.Language.{Rules, rulesIn}
 use Rattle.sets.specs.Sets.{leftAt}
 use Rattle.sets.specs.Focus.{focusFirst, focusNext}
-use Rattle.sets.specs.Numbering.{mostSets}
+use Rattle.sets.specs.Tables.{rightSet}
 use Rattle.stretches.specs.Candidates.{candidate, keep}
-use Rattle.stretches.specs.Account.{Line, each, lineWords, lineLength, wordsIn}
+use Rattle.stretches.specs.Account.{Line, each, lineWords, lineLength, lineRule, lineStart, lineEnd, lineVerdict, lineDeciding, wordsIn}
 use Rattle.stretches.specs.Ready.{RightSets}
 use Rattle.stretches.specs.Position.{hits}
-use Rattle.lines.specs.Lines.{lineBy, hitLines, endLines, startLines, LinesFit, LinesPut}
+use Rattle.lines.specs.Lines.{lineBy, DecidesBy, hitLines, endLines, startLines, LinesFit, LinesPut}
 use Rattle.lines.specs.declared.writing.Deciding.{Deciding}
 use Rattle.stretches.proofs.Lists.{each-none, each-same, keep-not}
 use Rattle.stretches.proofs.NoEmpty.{NoEmpty, no-empty, past-start}
@@ -38,21 +38,36 @@ words-none = refl
 
 -- the stores of a line's words, one after the other
 pub put-words : (x : Line) (l : List ℕ) (at : ℕ) → at + lineLength ≤ length l
-    → LinesPut (x ∷ []) at l (at + lineLength) (set (set (set (set (set l at (x .rule)) (at + 1) (x .start)) (at + 2) (x .end)) (at + 3) (x .verdict)) (at + 4) (x .deciding))
+    → LinesPut (x ∷ []) at l (at + lineLength)
+    (set
+    (set
+    (set
+    (set
+    (set l
+    (at + lineRule) (x .rule))
+    (at + lineStart) (x .start))
+    (at + lineEnd) (x .end))
+    (at + lineVerdict) (x .verdict))
+    (at + lineDeciding) (x .deciding))
 unfolding wordsIn
 put-words x l at h =
-    let p1 : at + 1 ≡ suc at = omega arith in
-    let p2 : at + 2 ≡ suc (suc at) = omega arith in
-    let p3 : at + 3 ≡ suc (suc (suc at)) = omega arith in
-    let p4 : at + 4 ≡ suc (suc (suc (suc at))) = omega arith in
-    record { next = refl; lines = rw (p1, p2, p3, p4) (sets-eq (lineWords x) l at h) }
+    let p0 : at + lineRule ≡ at = omega arith in
+    let p1 : at + lineStart ≡ suc at = omega arith in
+    let p2 : at + lineEnd ≡ suc (suc at) = omega arith in
+    let p3 : at + lineVerdict ≡ suc (suc (suc at)) = omega arith in
+    let p4 : at + lineDeciding ≡ suc (suc (suc (suc at))) = omega arith in
+    record { next = refl; lines = rw (p0, p1, p2, p3, p4) (sets-eq (lineWords x) l at h) }
+
+pub decides-up : (i n : ℕ) (d : Deciding) → i ≤ n → DecidesBy i d → DecidesBy n d
+decides-up i n d h was = record { start = omega (arith, was .start) }
 
 -- the line of a rule that passes, and none of one that does not
 pub kept-room : (hit c : Bool) (x : Line) (at : ℕ) (l : List ℕ) → hit ≡ c → hit ≡ true → LinesFit (keep c x) at l → at + lineLength ≤ length l
 unfolding wordsIn
 kept-room hit c x at l e f h = subst (λ (d : Bool). LinesFit (keep d x) at l) (sym e ∙ f) h
 
-pub kept-yes : (hit c : Bool) (x : Line) (at : ℕ) (l : List ℕ) (at′ : ℕ) (l′ : List ℕ) → hit ≡ c → hit ≡ true → LinesPut (x ∷ []) at l at′ l′ → LinesPut (keep c x) at l at′ l′
+pub kept-yes : (hit c : Bool) (x : Line) (at : ℕ) (l : List ℕ) (at′ : ℕ) (l′ : List ℕ) → hit ≡ c → hit ≡ true → LinesPut (x ∷ []) at l at′ l′
+    → LinesPut (keep c x) at l at′ l′
 kept-yes hit c x at l at′ l′ e f h = subst (λ (d : Bool). LinesPut (keep d x) at l at′ l′) (sym f ∙ e) h
 
 put-none : (ls : List Line) (at : ℕ) (l : List ℕ) → ls ≡ [] → LinesPut ls at l at l
@@ -86,13 +101,16 @@ module _ (whole : List Line) (l₀ : List ℕ) (at : ℕ) (l : List ℕ) (p : �
     pub written-turn : (p′ : ℕ) (l′ : List ℕ) → LinesPut now p l p′ l′ → Written whole l₀ at l′ p′ later
     written-turn p′ l′ did = rw (did .next, did .lines) (record {
       room = was .room;
-      front = front-put l₀ l p (wordsIn now) (wordsIn later) (take at l₀ ++ wordsIn whole) written-room (subst (λ (x : List ℕ). Front l₀ l p x (take at l₀ ++ wordsIn whole)) split (was .front));
+      front =
+          front-put l₀ l p (wordsIn now) (wordsIn later) (take at l₀ ++ wordsIn whole) written-room
+          (subst (λ (x : List ℕ). Front l₀ l p x (take at l₀ ++ wordsIn whole)) split (was .front));
     })
 
   pub written-end : more ≡ [] → LinesPut whole at l₀ p l
   written-end e =
       let h = was .room in
-      let z = front-finish l₀ l (wordsIn whole) at p (omega arith) (subst (λ (x : List ℕ). Front l₀ l p x (take at l₀ ++ wordsIn whole)) (ap wordsIn e ∙ words-none) (was .front)) in
+      let z = front-finish l₀ l (wordsIn whole) at p (omega arith)
+      (subst (λ (x : List ℕ). Front l₀ l p x (take at l₀ ++ wordsIn whole)) (ap wordsIn e ∙ words-none) (was .front)) in
       record { next = z .0; lines = z .1 }
 
 -- ---- one end
@@ -113,13 +131,18 @@ pub record Lined (b : Book) (X R i j : ℕ) (d : Deciding) (l₀ l : List ℕ) (
 module _ (b : Book) (X R i j : ℕ) (d : Deciding) where
   pub lined-none : (l : List ℕ) (at : ℕ) → ((r : ℕ) → hits b X R r ≡ false) → LinesPut (hitLines b X R i j d) at l at l
   unfolding hitLines
-  lined-none l at h = put-none (hitLines b X R i j d) at l (each-none (oneRule b X R i j d) 0 (length (b .words)) (λ r k g. ap (λ (c : Bool). keep c (lineBy i j r d)) (h r)))
+  lined-none l at h =
+      put-none (hitLines b X R i j d) at l (each-none (oneRule b X R i j d) 0 (length (b .words)) (λ r k g. ap (λ (c : Bool). keep c (lineBy i j r d)) (h r)))
 
   pub lined-start : (l : List ℕ) (at : ℕ) → LinesFit (hitLines b X R i j d) at l → Lined b X R i j d l l at at 0
   unfolding hitLines
   lined-start l at h =
       let z : length (b .words) ≡ length (b .words) - 0 = omega arith in
-      record { within = omega arith; written = subst (λ (n : ℕ). Written (hitLines b X R i j d) l at l at (each (oneRule b X R i j d) 0 n)) z (written-start (hitLines b X R i j d) l at h) }
+      record {
+        within = omega arith;
+        written = subst (λ (n : ℕ). Written (hitLines b X R i j d) l at l at (each (oneRule b X R i j d) 0 n)) z
+            (written-start (hitLines b X R i j d) l at h);
+      }
 
   module _ (l₀ l : List ℕ) (at p r : ℕ) (was : Lined b X R i j d l₀ l at p r) where
     module _ (inside : r < length (b .words)) where
@@ -127,12 +150,15 @@ module _ (b : Book) (X R i j : ℕ) (d : Deciding) where
       rule-step = let z : length (b .words) - r ≡ suc (length (b .words) - suc r) = omega arith in ap (each (oneRule b X R i j d) r) z
 
       pub lined-room : LinesFit (keep (hits b X R r) (lineBy i j r d)) p l
-      lined-room = written-room (hitLines b X R i j d) l₀ at l p (fromRule b X R i j d r) (was .written) (oneRule b X R i j d r) (fromRule b X R i j d (suc r)) rule-step
+      lined-room =
+          written-room (hitLines b X R i j d) l₀ at l p (fromRule b X R i j d r) (was .written) (oneRule b X R i j d r) (fromRule b X R i j d (suc r)) rule-step
 
       pub lined-turn : (p′ : ℕ) (l′ : List ℕ) → LinesPut (keep (hits b X R r) (lineBy i j r d)) p l p′ l′ → Lined b X R i j d l₀ l′ at p′ (r + 1)
       lined-turn p′ l′ did = rw add-one (record {
         within = inside;
-        written = written-turn (hitLines b X R i j d) l₀ at l p (fromRule b X R i j d r) (was .written) (oneRule b X R i j d r) (fromRule b X R i j d (suc r)) rule-step p′ l′ did;
+        written =
+            written-turn (hitLines b X R i j d) l₀ at l p (fromRule b X R i j d r) (was .written) (oneRule b X R i j d r) (fromRule b X R i j d (suc r))
+            rule-step p′ l′ did;
       })
 
     pub lined-end : length (b .words) ≤ r → LinesPut (hitLines b X R i j d) at l₀ p l
@@ -145,7 +171,9 @@ module _ (b : Book) (X R i j : ℕ) (d : Deciding) where
 module _ (b : Rules) (t : List ℕ) (i : ℕ) (d : Deciding) where
   -- an end where no rule has a candidate
   end-none : (j : ℕ) → ((r : ℕ) → r < length (b .words) → T (candidate b t i j r) → ⊥) → endLines b t i d j ≡ []
-  end-none j h = each-none (λ (r : ℕ). keep (candidate b t i j r) (lineBy i j r d)) 0 (length (b .words)) (λ r k g. keep-not (candidate b t i j r) (lineBy i j r d) (h r (omega arith)))
+  end-none j h =
+      each-none (λ (r : ℕ). keep (candidate b t i j r) (lineBy i j r d)) 0 (length (b .words))
+      (λ r k g. keep-not (candidate b t i j r) (lineBy i j r d) (h r (omega arith)))
 
   -- the lines of the ends past j
   abbrev pub pastEnd : ℕ → List Line
@@ -175,30 +203,39 @@ pub record Listed (book t : List ℕ) (i : ℕ) (d : Deciding) (l₀ l : List �
   pub written : Written (startLines (rulesIn book) t i d) l₀ at l p (pastEnd (rulesIn book) t i d j)
 
 module _ (book t sets scratch : List ℕ) (seen : RightSets book t sets scratch) (i : ℕ) (d : Deciding) where
-  pub listed-start : (L R F : ℕ) (l : List ℕ) (at : ℕ) → i ≤ length t → L ≡ leftAt (bookOf book) t i → R ≡ getD sets (mostSets + getD scratch i 0) 0 → F ≡ focusFirst (bookOf book) L R
+  pub listed-start : (L R F : ℕ) (l : List ℕ) (at : ℕ) → i ≤ length t → L ≡ leftAt (bookOf book) t i → R ≡ rightSet sets (getD scratch i 0)
+      → F ≡ focusFirst (bookOf book) L R
       → LinesFit (startLines (rulesIn book) t i d) at l → Listed book t i d l l at at i F
   listed-start L R F l at k e f g h = record {
     walk = pruned-start book t sets scratch seen i L R F k e f g;
-    written = subst (Written (startLines (rulesIn book) t i d) l at l at) (end-start (rulesIn book) t i d (no-empty book (seen .accepted)) k) (written-start (startLines (rulesIn book) t i d) l at h);
+    written =
+        subst (Written (startLines (rulesIn book) t i d) l at l at) (end-start (rulesIn book) t i d (no-empty book (seen .accepted)) k)
+        (written-start (startLines (rulesIn book) t i d) l at h);
   }
 
   module _ (l₀ l : List ℕ) (at p j set : ℕ) (was : Listed book t i d l₀ l at p j set) where
-    module _ (inside : j < length t) (R X : ℕ) (e : R ≡ getD sets (mostSets + getD scratch (j + 1) 0) 0) (f : X ≡ focusNext (bookOf book) set (getD t j 0) R) where
+    module _ (inside : j < length t) (R X : ℕ) (e : R ≡ rightSet sets (getD scratch (j + 1) 0)) (f : X ≡ focusNext (bookOf book) set (getD t j 0) R) where
       lines-are : hitLines (bookOf book) X R i (j + 1) d ≡ endLines (rulesIn book) t i d (suc j)
       unfolding hitLines
-      lines-are = rw add-one (each-same (λ (r : ℕ). keep (hits (bookOf book) X R r) (lineBy i (suc j) r d)) (λ (r : ℕ). keep (candidate (rulesIn book) t i (suc j) r) (lineBy i (suc j) r d)) 0 (length (bookOf book .words))
+      lines-are =
+          rw add-one (each-same (λ (r : ℕ). keep (hits (bookOf book) X R r) (lineBy i (suc j) r d))
+          (λ (r : ℕ). keep (candidate (rulesIn book) t i (suc j) r) (lineBy i (suc j) r d)) 0 (length (bookOf book .words))
           (λ r h k. ap (λ (c : Bool). keep c (lineBy i (suc j) r d)) (pruned-hits book t sets scratch seen i j set (was .walk) inside R X e f r)))
 
       step : pastEnd (rulesIn book) t i d j ≡ hitLines (bookOf book) X R i (j + 1) d ++ pastEnd (rulesIn book) t i d (suc j)
       step = end-turn (rulesIn book) t i d j inside ∙ ap (λ (x : List Line). x ++ pastEnd (rulesIn book) t i d (suc j)) (sym lines-are)
 
       pub listed-room : LinesFit (hitLines (bookOf book) X R i (j + 1) d) p l
-      listed-room = written-room (startLines (rulesIn book) t i d) l₀ at l p (pastEnd (rulesIn book) t i d j) (was .written) (hitLines (bookOf book) X R i (j + 1) d) (pastEnd (rulesIn book) t i d (suc j)) step
+      listed-room =
+          written-room (startLines (rulesIn book) t i d) l₀ at l p (pastEnd (rulesIn book) t i d j) (was .written) (hitLines (bookOf book) X R i (j + 1) d)
+          (pastEnd (rulesIn book) t i d (suc j)) step
 
       pub listed-turn : (p′ : ℕ) (l′ : List ℕ) → LinesPut (hitLines (bookOf book) X R i (j + 1) d) p l p′ l′ → Listed book t i d l₀ l′ at p′ (j + 1) X
       listed-turn p′ l′ did = record {
         walk = pruned-turn book t sets scratch seen i j set (was .walk) inside R X e f;
-        written = rw add-one (written-turn (startLines (rulesIn book) t i d) l₀ at l p (pastEnd (rulesIn book) t i d j) (was .written) (hitLines (bookOf book) X R i (j + 1) d) (pastEnd (rulesIn book) t i d (suc j)) step p′ l′ did);
+        written =
+            rw add-one (written-turn (startLines (rulesIn book) t i d) l₀ at l p (pastEnd (rulesIn book) t i d j) (was .written)
+            (hitLines (bookOf book) X R i (j + 1) d) (pastEnd (rulesIn book) t i d (suc j)) step p′ l′ did);
       }
 
     done : pastEnd (rulesIn book) t i d j ≡ [] → LinesPut (startLines (rulesIn book) t i d) at l₀ p l

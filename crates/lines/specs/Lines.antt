@@ -8,7 +8,7 @@ use lib.ListN.{length}
 use Rattle.book.specs.Reading.{Book}
 use Rattle.book.specs.Language.{Rules}
 use Rattle.stretches.specs.Candidates.{Stretch, candidate, longest, ruleOf, keep}
-use Rattle.stretches.specs.Account.{Line, verdictBy, each, wordsIn}
+use Rattle.stretches.specs.Account.{Line, judge, verdictBy, each, wordsIn}
 use Rattle.stretches.specs.Sentences.{sum}
 use Rattle.stretches.specs.Position.{hits}
 use Rattle.stretches.specs.Lists.{put}
@@ -36,7 +36,11 @@ decidingAt b t i c = cond (ltb i (c .end)) c (record { start = i; end = longest 
 
 -- the line of the candidate from i to j of the rule r, where d decides
 abbrev pub lineBy : ℕ → ℕ → ℕ → Deciding → Line
-lineBy i j r d = record { rule = r; start = i; end = j; verdict = verdictBy i j r (d .start) (d .end) (d .rule); deciding = d .start }
+lineBy i j r d = judge i j r (verdictBy i j r (d .start) (d .end) (d .rule)) (d .start) (d .rule)
+
+-- what decides at a position up to n: its numbers stand in the words of a line where n is the longest tape's length
+pub record DecidesBy (n : ℕ) (d : Deciding) : Type 0 where
+  pub start : d .start ≤ n
 
 -- the lines of one end
 unfoldable pub hitLines : Book → ℕ → ℕ → ℕ → ℕ → Deciding → List Line

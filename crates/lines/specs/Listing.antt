@@ -9,7 +9,7 @@ use Rattle.stretches.specs.Account.{account, lineLength, wordsIn}
 use Rattle.stretches.specs.Buffers.{onto}
 use Rattle.lines.specs.declared.Accounted.{Accounted}
 
--- the account of one tape after a build: "15: the account shorter than five words a candidate; words needed"
+-- what stands after the passes: the answer, and the buffer of the account
 pub record AfterLines : Type 0 where
   pub answer : Accounted
   pub lines : List ℕ
@@ -17,8 +17,13 @@ pub record AfterLines : Type 0 where
 abbrev pub linesLeave : Accounted → List ℕ → AfterLines
 linesLeave answer lines = record { answer = answer; lines = lines }
 
+-- five words a candidate
+abbrev pub wordsNeeded : Rules → List ℕ → ℕ
+wordsNeeded b tape = lineLength * length (account b tape)
+
+-- the account of one tape after a build: "15: the account shorter than five words a candidate; words needed"
 unfoldable pub linesDef : Rules → List ℕ → List ℕ → AfterLines
 linesDef b tape lines =
-    cond (leb (lineLength * length (account b tape)) (length lines))
+    cond (leb (wordsNeeded b tape) (length lines))
     (linesLeave (record { reply = 0; place = 0; candidates = length (account b tape) }) (onto (wordsIn (account b tape)) lines))
-    (linesLeave (record { reply = 15; place = lineLength * length (account b tape); candidates = 0 }) lines)
+    (linesLeave (record { reply = 15; place = wordsNeeded b tape; candidates = 0 }) lines)

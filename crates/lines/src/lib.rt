@@ -5,7 +5,7 @@ use sets::entries::right_set;
 use stretches::outline::ALL_ACCEPTS;
 use stretches::outline::MASKS;
 use stretches::outline::outline_of;
-use stretches::walk::focus_first;
+use stretches::walk::first_set;
 use stretches::walk::rule_hits;
 ghost use mathlib.Core.Path.{_≡_};
 ghost use Prim.Native.Nat.{_≤_};
@@ -21,13 +21,26 @@ ghost use Rattle.lines.specs.Lines.{hitCount, startCount};
 
 mod writing; // writing.rt: the lines of the account, one after the other
 
-// The words of a line of an account: rule, start, end, verdict, deciding start.
+// The words of a line of an account, and where each stands in it.
 pub const LINE_WORDS: usize = 5;
 
-// ACCOUNT's answer: the number of candidates.
+pub const LINE_RULE: usize = 0;
+
+pub const LINE_START: usize = 1;
+
+pub const LINE_END: usize = 2;
+
+pub const LINE_VERDICT: usize = 3;
+
+pub const LINE_DECIDING: usize = 4;
+
+// ACCOUNT's answer.
 pub struct Accounted {
+    // 0, or the refusal: here 15 alone, the account too short.
     pub reply: u8,
+    // 0, or for 15 the number of words needed.
     pub place: usize,
+    // How many lines were written, 0 where it is refused: the caller reads so many.
     pub candidates: usize,
 }
 
@@ -68,7 +81,7 @@ fn start_count(
     requires { ⌜ (from ≤ length (now tape)) × (length (now tape) ≤ longestTape) × (left ≡ leftAt (bookOf (now book)) (now tape) from) ⌝ }
     ensures { λ n. ⌜ n ≡ startCount (rulesIn (now (book .entry))) (now (tape .entry)) from ⌝ }
 {
-    let mut set = focus_first(book, masks, rules, left, right_set(sets, scratch, from));
+    let mut set = first_set(book, masks, rules, left, right_set(sets, scratch, from));
     let mut n = 0;
     let mut j = from;
     while j < tape.len() {

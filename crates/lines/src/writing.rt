@@ -1,5 +1,10 @@
 // The lines of the account: for each start the ends in order, and for each end the rules. The walk from a start ends right after its last
 // candidate.
+use crate::LINE_DECIDING;
+use crate::LINE_END;
+use crate::LINE_RULE;
+use crate::LINE_START;
+use crate::LINE_VERDICT;
 use crate::LINE_WORDS;
 use sets::entries::left_entry;
 use sets::entries::right_set;
@@ -7,13 +12,14 @@ use stretches::outline::ALL_ACCEPTS;
 use stretches::outline::MASKS;
 use stretches::steps::SLOTS;
 use stretches::steps::STEPS;
-use stretches::walk::focus_first;
+use stretches::walk::first_set;
 use stretches::walk::rule_hits;
 use stretches::walk::taken_at;
 ghost use mathlib.Core.Path.{_≡_};
 ghost use mathlib.Core.List.{_∷_, []};
 ghost use Prim.Native.Nat.{_+_, _≤_, _<_};
 ghost use lib.ListN.{length};
+ghost use Rattle.book.specs.Format.{mostRules};
 ghost use Rattle.book.specs.Reading.{bookOf};
 ghost use Rattle.book.specs.Language.{rulesIn};
 ghost use Rattle.sets.specs.Sets.{leftAt};
@@ -22,12 +28,15 @@ ghost use Rattle.stretches.specs.Account.{verdictBy, account, lineLength, words
 ghost use Rattle.stretches.specs.Buffers.{longestTape, onto};
 ghost use Rattle.stretches.specs.Ready.{Tests, Outlined, Ready, RightSets, Remembers};
 ghost use Rattle.stretches.specs.Position.{hits};
-ghost use Rattle.lines.specs.Lines.{decidingAt, lineBy, hitLines, startLines, LinesFit, LinesPut};
+ghost use Rattle.lines.specs.Lines.{decidingAt, lineBy, DecidesBy, hitLines, startLines, LinesFit, LinesPut};
 
-// The stretch that decides at a position, and its rule: the taken one that stands over it, or the empty one at it.
+// The stretch that decides at a position: the taken one that stands over it, or the empty one at it.
 pub struct Deciding {
+    // Where it starts, at most the position: the last word of a line.
     pub start: usize,
+    // Where it ends: the next position that it does not cover decides anew, and a candidate that ends before it is shorter.
     pub end: usize,
+    // Its rule's number, 0 where nothing is taken: of candidates of the same stretch that of the lowest rule is taken.
     pub rule: usize,
 }
 
@@ -47,24 +56,18 @@ fn verdict_of(i: usize, j: usize, r: usize, d: Deciding) -> u16
     0
 }
 
-// The words of a line, in their order; hands back where the next line begins.
-fn put_line(
-    lines: &mut [u16],
-    at: usize,
-    rule: u16,
-    start: u16,
-    end: u16,
-    verdict: u16,
-    deciding: u16,
-) -> usize
+// The line of the candidate of rule r from i to j, where d decides; hands back where the next line begins.
+fn put_line(lines: &mut [u16], at: usize, r: usize, i: usize, j: usize, d: Deciding) -> usize
+    requires { ⌜ (r < mostRules) × (i ≤ longestTape) × (j ≤ longestTape) × DecidesBy longestTape d ⌝ }
     requires { ⌜ at + lineLength ≤ length (now lines) ⌝ }
-    ensures { λ p. ⌜ LinesPut (record { rule = rule; start = start; end = end; verdict = verdict; deciding = deciding } ∷ []) at (now (lines .entry)) p (now (lines .exit)) ⌝ }
+    ensures { λ p. ⌜ LinesPut (lineBy i j r d ∷ []) at (now (lines .entry)) p (now (lines .exit)) ⌝ }
 {
-    lines[at] = rule;
-    lines[at + 1] = start;
-    lines[at + 2] = end;
-    lines[at + 3] = verdict;
-    lines[at + 4] = deciding;
+    let verdict = verdict_of(i, j, r, d);
+    lines[at + LINE_RULE] = r as u16;
+    lines[at + LINE_START] = i as u16;
+    lines[at + LINE_END] = j as u16;
+    lines[at + LINE_VERDICT] = verdict;
+    lines[at + LINE_DECIDING] = d.start as u16;
     at + LINE_WORDS
 }
 
@@ -83,22 +86,12 @@ fn put_if(
     at: usize,
 ) -> usize
     requires { ⌜ Tests (bookOf (now book)) rules (now masks) ⌝ }
-    requires { ⌜ (r < rules) × (i ≤ longestTape) × (j ≤ longestTape) × (d .start ≤ longestTape) ⌝ }
+    requires { ⌜ (r < rules) × (i ≤ longestTape) × (j ≤ longestTape) × DecidesBy longestTape d ⌝ }
     requires { ⌜ LinesFit (keep (hits (bookOf (now book)) set right r) (lineBy i j r d)) at (now lines) ⌝ }
     ensures { λ p. ⌜ LinesPut (keep (hits (bookOf (now (book .entry))) set right r) (lineBy i j r d)) at (now (lines .entry)) p (now (lines .exit)) ⌝ }
 {
-    let start = d.start;
     if rule_hits(book, masks, rules, set, right, r) {
-        let verdict = verdict_of(i, j, r, d);
-        return put_line(
-            lines,
-            at,
-            r as u16,
-            i as u16,
-            j as u16,
-            verdict,
-            start as u16,
-        );
+        return put_line(lines, at, r, i, j, d);
     }
     at
 }
@@ -117,7 +110,7 @@ fn put_rules(
     at: usize,
 ) -> usize
     requires { ⌜ Tests (bookOf (now book)) rules (now masks) ⌝ }
-    requires { ⌜ (i ≤ longestTape) × (j ≤ longestTape) × (d .start ≤ longestTape) ⌝ }
+    requires { ⌜ (i ≤ longestTape) × (j ≤ longestTape) × DecidesBy longestTape d ⌝ }
     requires { ⌜ LinesFit (hitLines (bookOf (now book)) set right i j d) at (now lines) ⌝ }
     ensures { λ p. ⌜ LinesPut (hitLines (bookOf (now (book .entry))) set right i j d) at (now (lines .entry)) p (now (lines .exit)) ⌝ }
 {
@@ -151,11 +144,11 @@ fn lines_at(
     requires { ⌜ Outlined (bookOf (now book)) rules (now places) (now masks) ⌝ }
     requires { ⌜ RightSets (now book) (now tape) (now sets) (now scratch) ⌝ }
     requires { ⌜ (from ≤ length (now tape)) × (left ≡ leftAt (bookOf (now book)) (now tape) from) ⌝ }
-    requires { ⌜ (length (now tape) ≤ longestTape) × (d .start ≤ from) ⌝ }
+    requires { ⌜ (length (now tape) ≤ longestTape) × DecidesBy from d ⌝ }
     requires { ⌜ LinesFit (startLines (rulesIn (now book)) (now tape) from d) at (now lines) ⌝ }
     ensures { λ p. ⌜ LinesPut (startLines (rulesIn (now (book .entry))) (now (tape .entry)) from d) at (now (lines .entry)) p (now (lines .exit)) ⌝ }
 {
-    let mut set = focus_first(book, masks, rules, left, right_set(sets, scratch, from));
+    let mut set = first_set(book, masks, rules, left, right_set(sets, scratch, from));
     let mut p = at;
     let mut j = from;
     while j < tape.len() {

@@ -23,7 +23,7 @@ use Rattle.output.specs.Passes.{mostMarks}
 use Rattle.stretches.proofs.Greatest.{greatest-least, greatest-all, greatest-most, Topped, topped-start, topped-more, topped-less, topped-end}
 use Rattle.stretches.proofs.Lengths.{marks-length}
 use Rattle.stretches.proofs.NoEmpty.{NoEmpty, no-empty}
-use Rattle.stretches.proofs.Scans.{sound-of}
+use Rattle.book.proofs.Claims.{sound as sound-of}
 use Rattle.stretches.proofs.Walks.{longest-low}
 use Rattle.stretches.proofs.Along.{from, At, at-start, at-turn, marks-step, takes-step, marks-all, takes-all, marks-in, marks-keep, marks-word, marks-last, takes-last}
 

@@ -12,8 +12,10 @@ use Rattle.book.specs.Language.{rulesIn}
 use Rattle.sets.proofs.Tables.{build-rows, build-sets}
 use Rattle.stretches.specs.Account.{lineLength}
 use Rattle.rewriter.specs.Replies.{rightNumbers, AfterReady, readyDef, AfterRewrite, rewriteDef, AfterAccount, accountDef}
-use Rattle.rewriter.proofs.Onto.{onto-length}
-use Rattle.rewriter.proofs.Tapes.{by-test, tape-fits-out, tape-fits-origins, tape-out, tape-origins, lines-fit, lines-kept}
+use Rattle.stretches.proofs.Onto.{onto-length}
+use Rattle.stretches.proofs.Lists.{by-test}
+use Rattle.lines.proofs.Listings.{lines-fit, lines-kept}
+use Rattle.rewriter.proofs.Tapes.{tape-fits-out, tape-fits-origins, tape-out, tape-origins}
 use Rattle.rewriter.proofs.MakeReady.{ReadyWay, stopped, unbuilt, made, ready-way, numbers-length}
 
 module _ (book tape rows sets scratch : List ℕ) where

@@ -1,6 +1,5 @@
 pub mod Showing
 pub mod Claims
-pub mod Onto
 pub mod Early
 pub mod Backwards
 pub mod MakeReady

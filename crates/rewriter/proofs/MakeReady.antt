@@ -21,7 +21,7 @@ use Rattle.stretches.specs.Ready.{Ready}
 use Rattle.rewriter.specs.Opening.{opened, Symbols, rightNumber, rightAll}
 use Rattle.rewriter.specs.declared.Refusal.{Refusal}
 use Rattle.rewriter.specs.declared.refusals.Opened.{Opened}
-use Rattle.rewriter.proofs.Onto.{onto-length, onto-at}
+use Rattle.stretches.proofs.Onto.{onto-length, onto-at}
 use Rattle.rewriter.proofs.Early.{Passed, passed}
 use Rattle.rewriter.proofs.Backwards.{length-up, at-up, same-up}
 

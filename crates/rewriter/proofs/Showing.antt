@@ -16,7 +16,7 @@ use Rattle.stretches.proofs.Sorting.{number-in}
 use Rattle.stretches.proofs.Accounts.{account-candidates}
 use Rattle.stretches.proofs.Counts.{words-length}
 use Rattle.stretches.proofs.NoEmpty.{no-empty, past-start}
-use Rattle.rewriter.proofs.Onto.{onto-at}
+use Rattle.stretches.proofs.Onto.{onto-at}
 
 pub bounds-short : (n : ℕ) (l : List ℕ) (k : ℕ) → length l < lineLength * (k + 1) → between 0 0 ≡ boundsOf n l k
 unfolding boundsOf

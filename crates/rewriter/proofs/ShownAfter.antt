@@ -17,7 +17,7 @@ use Rattle.rewriter.specs.Show.{between, boundsOf, partOf, showDef}
 use Rattle.stretches.proofs.Sorting.{number-in}
 use Rattle.stretches.proofs.Accounts.{account-candidates}
 use Rattle.rewriter.proofs.MakeReady.{ready}
-use Rattle.rewriter.proofs.Tapes.{by-test}
+use Rattle.stretches.proofs.Lists.{by-test}
 use Rattle.rewriter.proofs.Showing.{bounds-line}
 
 take-none : (n : ℕ) → take {A = ℕ} n [] ≡ []

@@ -1,6 +1,6 @@
--- One tape after a build, and its account: what is written is within the room, each buffer keeps its length, the answer looks at the buffers'
+-- One tape after a build: what is written is within the room, each buffer keeps its length, the answer looks at the buffers'
 -- lengths alone, and an output buffer is the written symbols and then what stood there. Assumes nothing.
-use Prim.Native.Nat.{ℕ, _*_, _≤_, zero-le}
+use Prim.Native.Nat.{ℕ, _≤_, zero-le}
 use mathlib.Core.Path.{_≡_, refl}
 use mathlib.Core.List.{List, _++_}
 use mathlib.Core.Bool.{Bool, true, false, cond, _&&_}
@@ -11,16 +11,10 @@ use borrow.Author.Tests.{leb-true}
 use Rattle.book.specs.Language.{Rules}
 use Rattle.book.proofs.Laws.{and-left, and-right}
 use Rattle.stretches.specs.Output.{rewriting, symbolsOf, originsOf}
-use Rattle.stretches.specs.Account.{account, lineLength, wordsIn}
 use Rattle.output.specs.Tape.{AfterTape, tapeDef}
-use Rattle.lines.specs.Listing.{AfterLines, linesDef}
-use Rattle.stretches.proofs.Counts.{words-length, symbols-length, origins-length}
-use Rattle.rewriter.proofs.Onto.{onto-length, onto-front}
-
--- what holds of both sides of a test, each with what the test says
-pub by-test {ℓ} : {A : Type ℓ} (P : A → Type 0) (test : Bool) (x y : A) → (test ≡ true → P x) → (test ≡ false → P y) → P (cond test x y)
-by-test P true x y f g = f refl
-by-test P false x y f g = g refl
+use Rattle.stretches.proofs.Counts.{symbols-length, origins-length}
+use Rattle.stretches.proofs.Lists.{by-test}
+use Rattle.stretches.proofs.Onto.{onto-length, onto-front}
 
 same-answer : (test : Bool) (x y x′ y′ : AfterTape) → x .answer ≡ x′ .answer → y .answer ≡ y′ .answer → cond test x y .answer ≡ cond test x′ y′ .answer
 same-answer true x y x′ y′ p q = p
@@ -78,17 +72,3 @@ module _ (b : Rules) (tape out origins : List ℕ) where
   pub tape-answer : (out′ origins′ : List ℕ) → length out ≡ length out′ → length origins ≡ length origins′ → tapeDef b tape out origins .answer ≡ tapeDef b tape out′ origins′ .answer
   unfolding tapeDef
   tape-answer out′ origins′ p q = rw (p, q) (same-answer (leb needed (length out′) && leb needed (length origins′)) _ _ _ _ refl refl)
-
-module _ (b : Rules) (tape lines : List ℕ) where
-  abbrev words : ℕ
-  words = lineLength * length (account b tape)
-
-  pub lines-fit : lineLength * linesDef b tape lines .answer .candidates ≤ length lines
-  unfolding linesDef
-  lines-fit = by-test (λ (x : AfterLines). lineLength * x .answer .candidates ≤ length lines) (leb words (length lines)) _ _ (λ e. leb-true words (length lines) e) (λ e. omega arith)
-
-  pub lines-kept : length (linesDef b tape lines .lines) ≡ length lines
-  unfolding linesDef
-  lines-kept =
-      by-test (λ (x : AfterLines). length (x .lines) ≡ length lines) (leb words (length lines)) _ _
-      (λ e. onto-length (wordsIn (account b tape)) lines (omega (arith, leb-true words (length lines) e, words-length (account b tape)))) (λ e. refl)

@@ -1,6 +1,7 @@
 -- The account, empty candidates too: each candidate once and nothing else, in order, with its verdict. Assumes nothing.
 use Prim.Native.Nat.{ℕ, suc, _+_, _-_, _≤_, _<_}
 use mathlib.Core.List.{List, [], _∷_, map, List·Memᴰ}
+use mathlib.Core.Bool.{Bool}
 use mathlib.Core.Path.{_≡_, refl, subst, subst₂, sym, ap, _∙_}
 use mathlib.Core.Logic.{_↔_, by-cases}
 use native.Mathlib.Omega.{arith}
@@ -12,7 +13,7 @@ use borrow.Author.Tests.{lt-ltb, le-ltb}
 use Rattle.stretches.proofs.Lists.{each-none, each-same, each-only, map-each, keep-yes, taken-each, taken-not}
 use Rattle.stretches.proofs.Sorting.{linesFrom, lines, lines-out, lines-in, lines-sorted}
 use Rattle.stretches.specs.Candidates.{candidate, keep, ruleOf, taken}
-use Rattle.stretches.specs.Account.{Line, each, lineFor, linesAt, account}
+use Rattle.stretches.specs.Account.{Line, judge, each, lineFor, linesAt, account}
 use Rattle.stretches.specs.Sentences.{Candidate, Sorted, Takes, Judged, takenLines, lineOf}
 use Rattle.stretches.proofs.Walks.{over, tape-over, far-reach, Walked, Place, inside, begins, alone, place}
 use Rattle.stretches.proofs.Stretches.{stretch, tk, tk-inside, tk-alone, tk-begins, taken-list, taken-walked, rule-first}
@@ -23,8 +24,18 @@ module _ (b : Rules) (t : List ℕ) where
   abbrev pub lineAt : ℕ → ℕ → ℕ → Line
   lineAt i j r = lineFor b t i j r (over b t i)
 
+  -- for each start the ends from it on, and for each end the rules
+  abbrev found : ℕ → ℕ → ℕ → Bool
+  found i j r = candidate b t i j r
+
+  abbrev firstEnd : ℕ → ℕ
+  firstEnd i = i
+
+  abbrev ends : ℕ → ℕ
+  ends i = suc (length t) - i
+
   abbrev pub allLines : List Line
-  allLines = lines (λ (i j r : ℕ). candidate b t i j r) lineAt (λ (i : ℕ). i) (λ (i : ℕ). (suc (length t) - i)) (suc (length t)) (length (b .words))
+  allLines = lines found lineAt firstEnd ends (suc (length t)) (length (b .words))
 
   pub account-lines : account b t ≡ allLines
   unfolding account
@@ -32,7 +43,7 @@ module _ (b : Rules) (t : List ℕ) where
 
   account-out : (l : Line) → List·Memᴰ l (account b t) → (i j r : ℕ) × Candidate b t i j r × (l ≡ lineAt i j r)
   account-out l m =
-      let z = lines-out (λ (i j r : ℕ). candidate b t i j r) lineAt (λ (i : ℕ). i) (λ (i : ℕ). (suc (length t) - i)) (suc (length t)) (length (b .words)) l (subst (List·Memᴰ l) account-lines m) in
+      let z = lines-out found lineAt firstEnd ends (suc (length t)) (length (b .words)) l (subst (List·Memᴰ l) account-lines m) in
       let x = z .3 in
       let a = x .start in
       let c = x .high in
@@ -43,7 +54,7 @@ module _ (b : Rules) (t : List ℕ) where
       let a = c .ordered in
       let d = c .inside in
       subst (List·Memᴰ (lineAt i j r)) (sym account-lines)
-      (lines-in (λ (i j r : ℕ). candidate b t i j r) lineAt (λ (i : ℕ). i) (λ (i : ℕ). (suc (length t) - i)) (suc (length t)) (length (b .words)) i j r (lineAt i j r)
+      (lines-in found lineAt firstEnd ends (suc (length t)) (length (b .words)) i j r (lineAt i j r)
       (record { start = omega arith; low = a; high = omega arith; known = c .known; holds = c .holds; line-is = refl }))
 
   -- (a) sound and complete: the lines are those of the candidates
@@ -59,14 +70,13 @@ module _ (b : Rules) (t : List ℕ) where
 
   -- (b) strictly sorted by start, end, rule
   pub account-sorted : Sorted (account b t)
-  account-sorted = subst Sorted (sym account-lines) (lines-sorted (λ (i j r : ℕ). candidate b t i j r) lineAt (λ (i : ℕ). i) (λ (i : ℕ). (suc (length t) - i)) (suc (length t)) (length (b .words)) (record { start-is = λ i j r. refl; end-is = λ i j r. refl; rule-is = λ i j r. refl }))
+  account-sorted =
+      subst Sorted (sym account-lines) (lines-sorted found lineAt firstEnd ends (suc (length t)) (length (b .words))
+      (record { start-is = λ i j r. refl; end-is = λ i j r. refl; rule-is = λ i j r. refl }))
 
   -- (c) the verdicts
   abbrev ruled : ℕ → ℕ → ℕ
   ruled i j = ruleOf b t i j
-
-  abbrev judge : ℕ → ℕ → ℕ → ℕ → ℕ → Line
-  judge i j r v d = record { rule = r; start = i; end = j; verdict = v; deciding = d }
 
   out : {i j : ℕ} → Takes b t i j → Walked b t i j
   out {i} {j} = taken-walked b t i j .0
@@ -74,7 +84,7 @@ module _ (b : Rules) (t : List ℕ) where
   into : {i j : ℕ} → Walked b t i j → Takes b t i j
   into {i} {j} = taken-walked b t i j .1
 
-  judged-0 : (i j r : ℕ) → Walked b t i j → r ≡ ruled i j → Judged b t (judge i j r 0 i)
+  judged-0 : (i j r : ℕ) → Walked b t i j → r ≡ ruled i j → Judged b t (judge i j r 0 i (ruled i j))
   judged-0 i j r w e = record {
     taken-one = (λ z. (into w, e), λ z. refl);
     shorter = (λ z. absurd (omega arith), λ z. let a = walked-one b t w (out (z .1)) in let h = z .2 in absurd (omega arith));
@@ -85,7 +95,7 @@ module _ (b : Rules) (t : List ℕ) where
     deciding-own = λ z. refl;
   }
 
-  judged-1 : (i j r e : ℕ) → Walked b t i e → j < e → Judged b t (judge i j r 1 i)
+  judged-1 : (i j r e : ℕ) → Walked b t i e → j < e → Judged b t (judge i j r 1 i (ruled i e))
   judged-1 i j r e w h = record {
     taken-one = (λ z. absurd (omega arith), λ z. let a = walked-one b t w (out (z .0)) in absurd (omega arith));
     shorter = (λ z. (e, into w, h), λ z. refl);
@@ -96,7 +106,7 @@ module _ (b : Rules) (t : List ℕ) where
     deciding-own = λ z. refl;
   }
 
-  judged-2 : (i j r : ℕ) → Walked b t i j → ruled i j < r → Judged b t (judge i j r 2 i)
+  judged-2 : (i j r : ℕ) → Walked b t i j → ruled i j < r → Judged b t (judge i j r 2 i (ruled i j))
   judged-2 i j r w h = record {
     taken-one = (λ z. absurd (omega arith), λ z. let a = z .1 in absurd (omega arith));
     shorter = (λ z. absurd (omega arith), λ z. let a = walked-one b t w (out (z .1)) in let h = z .2 in absurd (omega arith));
@@ -107,7 +117,7 @@ module _ (b : Rules) (t : List ℕ) where
     deciding-own = λ z. refl;
   }
 
-  judged-3 : (i j r s e : ℕ) → Walked b t s e → s < i → i < e → Judged b t (judge i j r 3 s)
+  judged-3 : (i j r s e : ℕ) → Walked b t s e → s < i → i < e → Judged b t (judge i j r 3 s (ruled s e))
   judged-3 i j r s e w h k = record {
     taken-one = (λ z. absurd (omega arith), λ z. absurd (walked-apart b t w h k (out (z .0))));
     shorter = (λ z. absurd (omega arith), λ z. absurd (walked-apart b t w h k (out (z .1))));
@@ -118,16 +128,16 @@ module _ (b : Rules) (t : List ℕ) where
     deciding-own = λ z. absurd (omega arith);
   }
 
-  line-3 : (i j r s e : ℕ) → s < i → over b t i ≡ stretch s e → lineAt i j r ≡ judge i j r 3 s
+  line-3 : (i j r s e : ℕ) → s < i → over b t i ≡ stretch s e → lineAt i j r ≡ judge i j r 3 s (ruled s e)
   line-3 i j r s e h o = ap (lineFor b t i j r) o ∙ rw (lt-ltb s i h)
 
-  line-1 : (i j r e : ℕ) → j < e → over b t i ≡ stretch i e → lineAt i j r ≡ judge i j r 1 i
+  line-1 : (i j r e : ℕ) → j < e → over b t i ≡ stretch i e → lineAt i j r ≡ judge i j r 1 i (ruled i e)
   line-1 i j r e h o = ap (lineFor b t i j r) o ∙ rw (le-ltb i i (omega arith), lt-ltb j e h)
 
-  line-2 : (i j r : ℕ) → ruled i j < r → over b t i ≡ stretch i j → lineAt i j r ≡ judge i j r 2 i
+  line-2 : (i j r : ℕ) → ruled i j < r → over b t i ≡ stretch i j → lineAt i j r ≡ judge i j r 2 i (ruled i j)
   line-2 i j r h o = ap (lineFor b t i j r) o ∙ rw (le-ltb i i (omega arith), le-ltb j j (omega arith), lt-ltb (ruled i j) r h)
 
-  pub line-0 : (i j r : ℕ) → r ≤ ruled i j → over b t i ≡ stretch i j → lineAt i j r ≡ judge i j r 0 i
+  pub line-0 : (i j r : ℕ) → r ≤ ruled i j → over b t i ≡ stretch i j → lineAt i j r ≡ judge i j r 0 i (ruled i j)
   line-0 i j r h o = ap (lineFor b t i j r) o ∙ rw (le-ltb i i (omega arith), le-ltb j j (omega arith), le-ltb (ruled i j) r h)
 
   pub line-judged : (i j r : ℕ) → Candidate b t i j r → Place b t i → Judged b t (lineAt i j r)
@@ -145,13 +155,17 @@ module _ (b : Rules) (t : List ℕ) where
   line-judged i j r c (alone m o) = absurd (m j (record { rule = r; cand = c }))
 
   pub account-judged : (l : Line) → List·Memᴰ l (account b t) → Judged b t l
-  account-judged l m = let z = account-out l m in subst (Judged b t) (sym (z .4)) (line-judged (z .0) (z .1) (z .2) (z .3) (place b t (z .0) (let p = z .3 .ordered in let q = z .3 .inside in omega arith)))
+  account-judged l m =
+      let z = account-out l m in
+      subst (Judged b t) (sym (z .4)) (line-judged (z .0) (z .1) (z .2) (z .3)
+      (place b t (z .0) (let p = z .3 .ordered in let q = z .3 .inside in omega arith)))
 
   -- (d) the lines with verdict 0 are the taken stretches in order
   abbrev from : ℕ → List Line
-  from = linesFrom (λ (i j r : ℕ). candidate b t i j r) lineAt (λ (i : ℕ). i) (λ (i : ℕ). (suc (length t) - i)) (suc (length t)) (length (b .words))
+  from = linesFrom found lineAt firstEnd ends (suc (length t)) (length (b .words))
 
-  zero-one : (i j r : ℕ) → i ≤ j → j < i + (suc (length t) - i) → r < length (b .words) → i ≤ length t → T (candidate b t i j r) → lineAt i j r .verdict ≡ 0 → Walked b t i j × (r ≡ ruled i j)
+  zero-one : (i j r : ℕ) → i ≤ j → j < i + (suc (length t) - i) → r < length (b .words) → i ≤ length t → T (candidate b t i j r) → lineAt i j r .verdict ≡ 0
+      → Walked b t i j × (r ≡ ruled i j)
   zero-one i j r h k g n c v =
       let z = line-judged i j r (record { ordered = h; inside = omega arith; known = g; holds = c }) (place b t i n) .taken-one .0 v in
       (out (z .0), z .1)
@@ -172,7 +186,8 @@ module _ (b : Rules) (t : List ℕ) where
       let R = rule-first b t i e c in
       let k = R .high in
       taken-each (λ (j : ℕ). each (λ (r : ℕ). keep (candidate b t i j r) (lineAt i j r)) 0 (length (b .words))) i (suc (length t) - i)
-      ∙ each-only (λ (j : ℕ). takenLines (each (λ (r : ℕ). keep (candidate b t i j r) (lineAt i j r)) 0 (length (b .words)))) i (suc (length t) - i) e a (omega arith) (λ j p q x.
+      ∙ each-only (λ (j : ℕ). takenLines (each (λ (r : ℕ). keep (candidate b t i j r) (lineAt i j r)) 0 (length (b .words)))) i (suc (length t) - i) e a
+      (omega arith) (λ j p q x.
       taken-each (λ (r : ℕ). keep (candidate b t i j r) (lineAt i j r)) 0 (length (b .words))
       ∙ each-none (λ (r : ℕ). takenLines (keep (candidate b t i j r) (lineAt i j r))) 0 (length (b .words)) (λ r u v.
       taken-not (candidate b t i j r) (lineAt i j r) (λ y z. x (walked-one b t (zero-one i j r p q (omega arith) n y z .0) w))))
@@ -191,7 +206,8 @@ module _ (b : Rules) (t : List ℕ) where
   account-taken =
       ap takenLines account-lines
       ∙ taken-each from 0 (suc (length t))
-      ∙ each-same (λ (i : ℕ). takenLines (from i)) (λ (i : ℕ). map (lineOf b t) (tk b t i)) 0 (suc (length t)) (λ i h k. let g : i ≤ length t = omega arith in lines-at i g (place b t i g))
+      ∙ each-same (λ (i : ℕ). takenLines (from i)) (λ (i : ℕ). map (lineOf b t) (tk b t i)) 0 (suc (length t))
+      (λ i h k. let g : i ≤ length t = omega arith in lines-at i g (place b t i g))
       ∙ sym (map-each (lineOf b t) (tk b t) 0 (suc (length t)))
       ∙ ap (map (lineOf b t)) (sym (taken-list b t))
 

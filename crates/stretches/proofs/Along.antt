@@ -15,7 +15,8 @@ use Rattle.stretches.specs.Output.{Mark, written, writtenAt, rewriting, 
 use Rattle.stretches.specs.Account.{each}
 use Rattle.stretches.proofs.Lists.{keep-not, keep-yes}
 use Rattle.stretches.proofs.NoEmpty.{NoEmpty, fresh-past}
-use Rattle.stretches.proofs.Walks.{over, over-suc, over-zero, over-far, stands, cover-in, cover-new, symbolAt, symbol-at, symbol-end, tape-over, longest-low, longest-high}
+use Rattle.stretches.proofs.Walks.{over, over-suc, over-zero, over-far, stands, cover-in, cover-new, symbolAt, symbol-at, symbol-end}
+use Rattle.stretches.proofs.Walks.{tape-over, longest-low, longest-high}
 use Rattle.stretches.specs.Position.{marksAt, takesAt, endNext}
 
 module _ (b : Rules) (t : List ℕ) where
@@ -24,7 +25,8 @@ module _ (b : Rules) (t : List ℕ) where
   from f i = each (λ (k : ℕ). f k (symbolAt b t k) (over b t k)) i (suc (length t) - i)
 
   pub from-all {ℓ} : {A : Type ℓ} (f : ℕ → List ℕ → Stretch → List A) → overTape f b t ≡ from f 0
-  from-all f = let e : suc (length t) ≡ suc (length t) - 0 = omega arith in tape-over b t f ∙ ap (λ (n : ℕ). each (λ (k : ℕ). f k (symbolAt b t k) (over b t k)) 0 n) e
+  from-all f =
+      let e : suc (length t) ≡ suc (length t) - 0 = omega arith in tape-over b t f ∙ ap (λ (n : ℕ). each (λ (k : ℕ). f k (symbolAt b t k) (over b t k)) 0 n) e
 
   pub from-step {ℓ} : {A : Type ℓ} (f : ℕ → List ℕ → Stretch → List A) (i : ℕ) → i < length t → from f i ≡ f i (getD t i 0 ∷ []) (over b t i) ++ from f (suc i)
   from-step {A = A} f i h =
@@ -81,7 +83,8 @@ module _ (b : Rules) (t : List ℕ) where
   pub at-takes : (i end : ℕ) → At i end → takenAt i (getD t i 0 ∷ []) (over b t i) ≡ takesAt b t i end
   unfolding takesAt
   at-takes i end a = by-cases (decLt i end)
-      (λ h. let d = over b t i in let g = a .before h in rw (lt-ltb i end h) (keep-not (eqb (d .start) i && d .taken) d (other (d .start) i (d .taken) (λ q. omega arith))))
+      (λ h. let d = over b t i in let g = a .before h in
+      rw (lt-ltb i end h) (keep-not (eqb (d .start) i && d .taken) d (other (d .start) i (d .taken) (λ q. omega arith))))
       (λ h. rw (le-ltb i end (omega arith)) (ap (takenAt i (getD t i 0 ∷ [])) (a .begins (omega arith))))
 
   -- one position
@@ -119,7 +122,9 @@ module _ (b : Rules) (t : List ℕ) where
   module _ (none : NoEmpty b) where
     -- nothing is taken
     alone : (i : ℕ) → longest b t i ≡ i → fresh b t i ≡ record { start = i; end = i; taken = false }
-    alone i e = fresh-past b t none i ∙ ap (λ (j : ℕ). record { start = i; end = j; taken = ltb i j }) e ∙ ap (λ (c : Bool). record { start = i; end = i; taken = c }) (le-ltb i i (omega arith))
+    alone i e =
+        fresh-past b t none i ∙ ap (λ (j : ℕ). record { start = i; end = j; taken = ltb i j }) e
+        ∙ ap (λ (c : Bool). record { start = i; end = i; taken = c }) (le-ltb i i (omega arith))
 
     takes : (i : ℕ) → i < longest b t i → fresh b t i ≡ record { start = i; end = longest b t i; taken = true }
     takes i h = fresh-past b t none i ∙ ap (λ (c : Bool). record { start = i; end = longest b t i; taken = c }) (lt-ltb i (longest b t i) h)
@@ -138,7 +143,9 @@ module _ (b : Rules) (t : List ℕ) where
 
     pub takes-none : (i end : ℕ) → end ≤ i → longest b t i ≡ i → takesAt b t i end ≡ []
     unfolding takesAt
-    takes-none i end h e = rw (le-ltb i end h) (ap (takenAt i (getD t i 0 ∷ [])) (alone i e) ∙ keep-not (eqb i i && false) (record { start = i; end = i; taken = false }) (no (eqb i i)))
+    takes-none i end h e =
+        rw (le-ltb i end h) (ap (takenAt i (getD t i 0 ∷ [])) (alone i e)
+        ∙ keep-not (eqb i i && false) (record { start = i; end = i; taken = false }) (no (eqb i i)))
       where
         no : (c : Bool) → T (c && false) → ⊥
         no true x = x
@@ -146,7 +153,9 @@ module _ (b : Rules) (t : List ℕ) where
 
     pub takes-one : (i end : ℕ) → end ≤ i → i < longest b t i → length (takesAt b t i end) ≡ 1
     unfolding takesAt
-    takes-one i end h e = rw (le-ltb i end h) (ap (λ (d : Stretch). length (takenAt i (getD t i 0 ∷ []) d)) (takes i e) ∙ ap length (keep-yes (eqb i i && true) (record { start = i; end = longest b t i; taken = true }) (own (eqb i i) (eq i))))
+    takes-one i end h e =
+        rw (le-ltb i end h) (ap (λ (d : Stretch). length (takenAt i (getD t i 0 ∷ []) d)) (takes i e)
+        ∙ ap length (keep-yes (eqb i i && true) (record { start = i; end = longest b t i; taken = true }) (own (eqb i i) (eq i))))
       where
         eq : (i : ℕ) → T (eqb i i)
         eq i = eqb-refl i
@@ -157,16 +166,19 @@ module _ (b : Rules) (t : List ℕ) where
 
     -- at the end of the tape nothing is written and nothing taken
     last-alone : over b t (length t) .start ≡ length t → over b t (length t) ≡ record { start = length t; end = length t; taken = false }
-    last-alone e = over-far b t (length t) e ∙ alone (length t) (let l = longest-low b t (length t) in let m = longest-high b t (length t) (omega arith) in omega arith)
+    last-alone e =
+        over-far b t (length t) e ∙ alone (length t) (let l = longest-low b t (length t) in let m = longest-high b t (length t) (omega arith) in omega arith)
 
     pub marks-last : from (writtenAt b t) (length t) ≡ []
     marks-last = from-last (writtenAt b t) ∙ by-cases (ℕ-discrete (over b t (length t) .start) (length t))
         (λ e. ap (writtenAt b t (length t) []) (last-alone e) ∙ written-alone (length t) [])
-        (λ e. let l = stands b t (length t) .low in let g : over b t (length t) .start < length t = omega arith in rw (lt-ltb (over b t (length t) .start) (length t) g))
+        (λ e. let l = stands b t (length t) .low in let g : over b t (length t) .start < length t = omega arith in
+        rw (lt-ltb (over b t (length t) .start) (length t) g))
 
     pub takes-last : from takenAt (length t) ≡ []
     takes-last = from-last takenAt ∙ by-cases (ℕ-discrete (over b t (length t) .start) (length t))
-        (λ e. ap (takenAt (length t) []) (last-alone e) ∙ keep-not (eqb (length t) (length t) && false) (record { start = length t; end = length t; taken = false }) (no (eqb (length t) (length t))))
+        (λ e. ap (takenAt (length t) []) (last-alone e)
+        ∙ keep-not (eqb (length t) (length t) && false) (record { start = length t; end = length t; taken = false }) (no (eqb (length t) (length t))))
         (λ e. let d = over b t (length t) in keep-not (eqb (d .start) (length t) && d .taken) d (other (d .start) (length t) (d .taken) e))
       where
         no : (c : Bool) → T (c && false) → ⊥

@@ -34,19 +34,39 @@ sum-most f m h a zero = omega arith
 sum-most f m h a (suc n) = let e = h a in let g = sum-most f m h (suc a) n in let d = mul-suc m n in omega arith
 
 module _ (b : Rules) (t : List ℕ) where
-  ended : (i j : ℕ) → length (each (λ (r : ℕ). keep (candidate b t i j r) (lineAt b t i j r)) 0 (length (b .words))) ≡ sum (λ (r : ℕ). cond (candidate b t i j r) 1 0) 0 (length (b .words))
-  ended i j = length-each (λ (r : ℕ). keep (candidate b t i j r) (lineAt b t i j r)) 0 (length (b .words))
-      ∙ sum-same (λ (r : ℕ). length (keep (candidate b t i j r) (lineAt b t i j r))) (λ (r : ℕ). cond (candidate b t i j r) 1 0) (λ r. length-keep (candidate b t i j r) (lineAt b t i j r)) 0 (length (b .words))
+  -- the lines of a rule, of an end, of a start; and 1 or 0 for each rule, for each end
+  abbrev ruleLines : ℕ → ℕ → ℕ → List Line
+  ruleLines i j r = keep (candidate b t i j r) (lineAt b t i j r)
 
-  begun : (i : ℕ) → length (each (λ (j : ℕ). each (λ (r : ℕ). keep (candidate b t i j r) (lineAt b t i j r)) 0 (length (b .words))) i (suc (length t) - i))
-      ≡ sum (λ (j : ℕ). sum (λ (r : ℕ). cond (candidate b t i j r) 1 0) 0 (length (b .words))) i (suc (length t) - i)
-  begun i = length-each (λ (j : ℕ). each (λ (r : ℕ). keep (candidate b t i j r) (lineAt b t i j r)) 0 (length (b .words))) i (suc (length t) - i)
-      ∙ sum-same (λ (j : ℕ). length (each (λ (r : ℕ). keep (candidate b t i j r) (lineAt b t i j r)) 0 (length (b .words)))) (λ (j : ℕ). sum (λ (r : ℕ). cond (candidate b t i j r) 1 0) 0 (length (b .words))) (ended i) i (suc (length t) - i)
+  abbrev endLines : ℕ → ℕ → List Line
+  endLines i j = each (ruleLines i j) 0 (length (b .words))
+
+  abbrev startLines : ℕ → List Line
+  startLines i = each (endLines i) i (suc (length t) - i)
+
+  abbrev ones : ℕ → ℕ → ℕ → ℕ
+  ones i j r = cond (candidate b t i j r) 1 0
+
+  abbrev endSum : ℕ → ℕ → ℕ
+  endSum i j = sum (ones i j) 0 (length (b .words))
+
+  abbrev startSum : ℕ → ℕ
+  startSum i = sum (endSum i) i (suc (length t) - i)
+
+  ended : (i j : ℕ) → length (endLines i j) ≡ endSum i j
+  ended i j =
+      length-each (ruleLines i j) 0 (length (b .words))
+      ∙ sum-same (λ (r : ℕ). length (ruleLines i j r)) (ones i j) (λ r. length-keep (candidate b t i j r) (lineAt b t i j r)) 0 (length (b .words))
+
+  begun : (i : ℕ) → length (startLines i) ≡ startSum i
+  begun i =
+      length-each (endLines i) i (suc (length t) - i)
+      ∙ sum-same (λ (j : ℕ). length (endLines i j)) (endSum i) (ended i) i (suc (length t) - i)
 
   pub account-length : length (account b t) ≡ candidateCount b t
   account-length = ap length (account-lines b t)
-      ∙ length-each (λ (i : ℕ). each (λ (j : ℕ). each (λ (r : ℕ). keep (candidate b t i j r) (lineAt b t i j r)) 0 (length (b .words))) i (suc (length t) - i)) 0 (suc (length t))
-      ∙ sum-same (λ (i : ℕ). length (each (λ (j : ℕ). each (λ (r : ℕ). keep (candidate b t i j r) (lineAt b t i j r)) 0 (length (b .words))) i (suc (length t) - i))) (λ (i : ℕ). sum (λ (j : ℕ). sum (λ (r : ℕ). cond (candidate b t i j r) 1 0) 0 (length (b .words))) i (suc (length t) - i)) begun 0 (suc (length t))
+      ∙ length-each startLines 0 (suc (length t))
+      ∙ sum-same (λ (i : ℕ). length (startLines i)) startSum begun 0 (suc (length t))
 
 pub words-length : (ls : List Line) → length (wordsIn ls) ≡ lineLength * length ls
 unfolding wordsIn

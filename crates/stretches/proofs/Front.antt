@@ -68,7 +68,8 @@ module _ (l₀ l W : List ℕ) (at p : ℕ) (h : at ≤ length l₀) where
   front-place more was = front-count l₀ l p more (take at l₀ ++ W) was ∙ whole-length
 
   pub front-finish : Front l₀ l p [] (take at l₀ ++ W) → (p ≡ at + length W) × (l ≡ put l₀ at W)
-  front-finish was = let e = front-place [] was in (omega arith, front-end l₀ l p (take at l₀ ++ W) was ∙ ap (λ (n : ℕ). (take at l₀ ++ W) ++ drop n l₀) whole-length)
+  front-finish was =
+      let e = front-place [] was in (omega arith, front-end l₀ l p (take at l₀ ++ W) was ∙ ap (λ (n : ℕ). (take at l₀ ++ W) ++ drop n l₀) whole-length)
 
 -- nothing and one element put
 pub put-nil : (l : List ℕ) (p : ℕ) → l ≡ put l p []

@@ -10,7 +10,7 @@ use Rattle.stretches.specs.Paper.{Context, start, end, Contexts, C, Afte
 use lib.ListN.{length, length-append}
 
 -- a walk over the candidates K: the positions that no taken stretch has strictly inside, and where the longest candidate at a position ends
-pub record Walk (K : ℕ → ℕ → Type 0) : Type 1 where
+pub record GreedyWalk (K : ℕ → ℕ → Type 0) : Type 1 where
   pub Free : ℕ → Type 0
   pub far : ℕ → ℕ
   pub around : (i : ℕ) → Free i ⊎ ((s : ℕ) × Free s × K s (far s) × (s < i) × (i < far s))
@@ -20,7 +20,7 @@ pub record Walk (K : ℕ → ℕ → Type 0) : Type 1 where
   pub best : (i j : ℕ) → K i j → K i (far i)
   pub decide : (i : ℕ) → Dec (K i (far i))
 
-module _ {K : ℕ → ℕ → Type 0} (W : Walk K) where
+module _ {K : ℕ → ℕ → Type 0} (W : GreedyWalk K) where
   -- i is a taken start
   pub record At (i : ℕ) : Type 0 where
     pub free : W .Free i
@@ -80,7 +80,8 @@ module _ {K : ℕ → ℕ → Type 0} (W : Walk K) where
 -- the remark after 3.5
 pub overlap-over : (c d : Context) → Overlap c d ↔ (Over c d ⊎ Over d c)
 overlap-over c d = (
-  λ o. let p = o .one in let q = o .two in let n = o .other in by-cases (decLt (start d) (start c)) (λ h. inl (record { below = h; above = p })) (λ h. inr (record { below = omega arith; above = q })),
+  λ o. let p = o .one in let q = o .two in let n = o .other in
+      by-cases (decLt (start d) (start c)) (λ h. inl (record { below = h; above = p })) (λ h. inr (record { below = omega arith; above = q })),
   λ x. ⊎-elim (λ o. let p = o .below in let q = o .above in let l = length-append (c .u) (c .v) in record { one = q; two = omega arith; other = omega arith })
       (λ o. let p = o .below in let q = o .above in let l = length-append (d .u) (d .v) in record { one = omega arith; two = q; other = omega arith }) x,
 )
@@ -90,7 +91,7 @@ pub record Reads (b : Rules) (t : List ℕ) (K : ℕ → ℕ → Type 0) : Type 
   pub to : (c : Context) → C b t c → K (start c) (end c)
   pub from : (i j : ℕ) → K i j → (c : Context) × C b t c × (start c ≡ i) × (end c ≡ j)
 
-module _ {K : ℕ → ℕ → Type 0} (W : Walk K) (b : Rules) (t : List ℕ) (R : Reads b t K) where
+module _ {K : ℕ → ℕ → Type 0} (W : GreedyWalk K) (b : Rules) (t : List ℕ) (R : Reads b t K) where
   -- the contexts at the first k taken starts; at the taken start number k
   pub record Below (k : ℕ) (c : Context) : Type 0 where
     pub member : C b t c
@@ -109,14 +110,20 @@ module _ {K : ℕ → ℕ → Type 0} (W : Walk K) (b : Rules) (t : List ℕ) (R
     -- a taken start below s, of rank below k: its longest context is in A
     earlier : (s : ℕ) → At W s → rank W s < k → (c : Context) × A c × (start c ≡ s) × (end c ≡ W .far s)
     earlier s a h =
-        let z = R .from s (W .far s) (a .cand) in
-        (z .0, ih (z .0) .1 (record { member = z .1; free = subst (W .Free) (sym (z .2)) (a .free); less = subst (λ (x : ℕ). rank W x < k) (sym (z .2)) h }), z .2, z .3)
+        let z = R .from s (W .far s) (a .cand) in (
+          z .0,
+          ih (z .0) .1 (record { member = z .1; free = subst (W .Free) (sym (z .2)) (a .free); less = subst (λ (x : ℕ). rank W x < k) (sym (z .2)) h }),
+          z .2,
+          z .3,
+        )
 
     exact-past : (c d : Context) → Exact k c → A d → (start d < start c) × (end d ≤ start c)
     exact-past c d x y =
         let m = ih d .0 y in
-        let h : start d < start c = by-cases (decLt (start d) (start c)) (λ g. g) (λ g. let z = rank-mono W (start c) (start d) (omega arith) in let e = x .same in let l = m .less in absurd (omega arith)) in
-        let f : W .far (start d) ≤ start c = by-cases (decLe (W .far (start d)) (start c)) (λ g. g) (λ g. absurd (W .apart (start d) (start c) (m .free) h (omega arith) (x .free))) in
+        let h : start d < start c = by-cases (decLt (start d) (start c)) (λ g. g)
+        (λ g. let z = rank-mono W (start c) (start d) (omega arith) in let e = x .same in let l = m .less in absurd (omega arith)) in
+        let f : W .far (start d) ≤ start c = by-cases (decLe (W .far (start d)) (start c)) (λ g. g)
+        (λ g. absurd (W .apart (start d) (start c) (m .free) h (omega arith) (x .free))) in
         let l = W .long (start d) (end d) (R .to d (m .member)) in
         (h, omega arith)
 
@@ -143,7 +150,8 @@ module _ {K : ℕ → ℕ → Type 0} (W : Walk K) (b : Rules) (t : List ℕ) (R
     ranked c x i h =
         let z = rank-find W k i h in
         let y = R .from (z .0) (W .far (z .0)) (z .1 .cand) in
-        let g = x .first (y .0) (exact-after (y .0) (record { member = y .1; free = subst (W .Free) (sym (y .2)) (z .1 .free); same = ap (rank W) (y .2) ∙ z .3 })) in
+        let g = x .first (y .0) (exact-after (y .0) (record
+        { member = y .1; free = subst (W .Free) (sym (y .2)) (z .1 .free); same = ap (rank W) (y .2) ∙ z .3 })) in
         let e = y .2 in let l = z .2 in omega arith
 
     exact-out : (c : Context) → Leftmost (After (C b t) A) c → Exact k c

@@ -45,7 +45,9 @@ same p q r s = rw (p, q, r) s
 module _ (b : Rules) (t : List ℕ) where
   words-append : (xs ys : List Stretch) → writtenWords b t (xs ++ ys) ≡ writtenWords b t xs ++ writtenWords b t ys
   words-append [] ys = refl
-  words-append (d ∷ xs) ys = ap (λ (x : List Mark). written b t (d .start) (d .end) ++ x) (words-append xs ys) ∙ sym (append-assoc (written b t (d .start) (d .end)) (writtenWords b t xs) (writtenWords b t ys))
+  words-append (d ∷ xs) ys =
+      ap (λ (x : List Mark). written b t (d .start) (d .end) ++ x) (words-append xs ys)
+      ∙ sym (append-assoc (written b t (d .start) (d .end)) (writtenWords b t xs) (writtenWords b t ys))
 
   words-each : (f : ℕ → List Stretch) (a n : ℕ) → writtenWords b t (each f a n) ≡ each (λ (k : ℕ). writtenWords b t (f k)) a n
   words-each f a zero = refl
@@ -53,13 +55,15 @@ module _ (b : Rules) (t : List ℕ) where
 
   -- a position is covered exactly where a stretch that the walk takes goes over it
   covers : (s e i : ℕ) → Walked b t s e → s ≤ i → i < e → T (covered (taken b t) i)
-  covers s e i w h k = any-in (λ (d : Stretch). leb (d .start) i && ltb i (d .end)) (taken-walked b t s e .1 w) (and-both (leb s i) (ltb i e) (le→leb s i h) (lt→ltb i e k))
+  covers s e i w h k =
+      any-in (λ (d : Stretch). leb (d .start) i && ltb i (d .end)) (taken-walked b t s e .1 w) (and-both (leb s i) (ltb i e) (le→leb s i h) (lt→ltb i e k))
 
   bare : (i : ℕ) → Bare b t i → T (covered (taken b t) i) → ⊥
   bare i n x =
       let z = any-out (λ (d : Stretch). leb (d .start) i && ltb i (d .end)) (taken b t) x in
       let d = z .0 in
-      n (d .start) (d .end) (each-walked b t d (z .1)) (leb→le (d .start) i (and-left (leb (d .start) i) (ltb i (d .end)) (z .2))) (ltb→lt i (d .end) (and-right (leb (d .start) i) (ltb i (d .end)) (z .2)))
+      n (d .start) (d .end) (each-walked b t d (z .1)) (leb→le (d .start) i (and-left (leb (d .start) i) (ltb i (d .end)) (z .2)))
+      (ltb→lt i (d .end) (and-right (leb (d .start) i) (ltb i (d .end)) (z .2)))
 
   -- what is kept at i; at the tape's end nothing
   abbrev keptAt : ℕ → List Mark
@@ -72,10 +76,13 @@ module _ (b : Rules) (t : List ℕ) where
   kept-one i n = miss (covered (taken b t) i) [] (keptMarks (symbolAt b t i) i) (bare i n)
 
   at : (i : ℕ) → Place b t i → Shuffled (keptAt i) (writtenWords b t (tk b t i)) (said b t i)
-  at i (inside s e w h k o) = same (kept-none i (covers s e i w (omega arith) k)) (ap (writtenWords b t) (tk-inside b t i s e h o)) (said-inside b t i s e h o) none
-  at i (alone n o) = same (kept-one i (bare-alone b t i n o)) (ap (writtenWords b t) (tk-alone b t i o)) (said-alone b t i o) (only-left (keptMarks (symbolAt b t i) i))
+  at i (inside s e w h k o) =
+      same (kept-none i (covers s e i w (omega arith) k)) (ap (writtenWords b t) (tk-inside b t i s e h o)) (said-inside b t i s e h o) none
+  at i (alone n o) =
+      same (kept-one i (bare-alone b t i n o)) (ap (writtenWords b t) (tk-alone b t i o)) (said-alone b t i o) (only-left (keptMarks (symbolAt b t i) i))
   at i (begins e w o) = by-cases (decLt i e)
-      (λ h. same (kept-none i (covers i e i w (omega arith) h)) (ap (writtenWords b t) (tk-begins b t i e o) ∙ append-nil (written b t i e)) (said-begins b t i e h o) (only-right (written b t i e)))
+      (λ h. same (kept-none i (covers i e i w (omega arith) h)) (ap (writtenWords b t) (tk-begins b t i e o) ∙ append-nil (written b t i e))
+      (said-begins b t i e h o) (only-right (written b t i e)))
       (λ h. let l = w .some .cand .ordered in
       let q : e ≡ i = omega arith in
       let v = o ∙ ap (stretch i) q in
@@ -91,7 +98,9 @@ module _ (b : Rules) (t : List ℕ) where
       each-same (λ (i : ℕ). cond (covered (taken b t) i) [] (keptMarks (getD t i 0 ∷ []) i)) keptAt 0 (length t)
       (λ i h k. ap (λ (x : List ℕ). cond (covered (taken b t) i) [] (keptMarks x i)) (sym (symbol-at b t i (omega arith))))
       ∙ sym (append-nil (each keptAt 0 (length t)))
-      ∙ ap (λ (x : List Mark). each keptAt 0 (length t) ++ x) (sym (no-cond (covered (taken b t) (length t)) (keptMarks (symbolAt b t (length t)) (length t)) (ap (λ (x : List ℕ). keptMarks x (length t)) (symbol-end b t (length t) (omega arith)))))
+      ∙ ap (λ (x : List Mark). each keptAt 0 (length t) ++ x)
+      (sym (no-cond (covered (taken b t) (length t)) (keptMarks (symbolAt b t (length t)) (length t))
+      (ap (λ (x : List ℕ). keptMarks x (length t)) (symbol-end b t (length t) (omega arith)))))
       ∙ ap (λ (n : ℕ). each keptAt 0 (length t) ++ keptAt n) (sym (zero-add (length t)))
       ∙ sym (each-snoc keptAt 0 (length t))
 

@@ -33,27 +33,32 @@ module _ (b : Rules) (t : List ℕ) where
 
       go : Place b t i → Linked i (suc k)
       go (inside s e w p q o) = absurd (edge s e w p q)
-      go (alone m o) = subst tail (sym (tk-alone b t i o)) (chain-down t i (ds b t (suc i) k) (ih (suc i) k (omega arith) (omega arith) (edge-alone b t i m edge)))
+      go (alone m o) =
+          subst tail (sym (tk-alone b t i o)) (chain-down t i (ds b t (suc i) k) (ih (suc i) k (omega arith) (omega arith) (edge-alone b t i m edge)))
       go (begins e w o) = subst tail (sym (tk-begins b t i e o)) (omega arith, w .some .cand .ordered, w .some .cand .inside, by-cases (decLt i e) longer empty)
         where
           longer : i < e → Chain t e (ds b t (suc i) k)
           longer p =
               let q = w .some .cand .inside in
-              subst (λ (x : List Stretch). Chain t e (map (lineOf b t) x)) (sym (skip (tk b t) i k e p (omega arith) (λ x u v. tk-inside b t x i e u (over-of b t i e w x u v))))
+              subst (λ (x : List Stretch). Chain t e (map (lineOf b t) x))
+              (sym (skip (tk b t) i k e p (omega arith) (λ x u v. tk-inside b t x i e u (over-of b t i e w x u v))))
               (ih e (suc i + k - e) (omega arith) (omega arith) (edge-end b t i e p w))
 
           empty : (i < e → ⊥) → Chain t e (ds b t (suc i) k)
           empty n =
               let l = w .some .cand .ordered in
               let q : i ≡ e = omega arith in
-              subst (λ (x : ℕ). Chain t x (ds b t (suc i) k)) q (chain-down t i (ds b t (suc i) k) (ih (suc i) k (omega arith) (omega arith) (edge-empty b t i (subst (Walked b t i) (sym q) w))))
+              subst (λ (x : ℕ). Chain t x (ds b t (suc i) k)) q
+              (chain-down t i (ds b t (suc i) k) (ih (suc i) k (omega arith) (omega arith) (edge-empty b t i (subst (Walked b t i) (sym q) w))))
 
   linked : (m i k : ℕ) → k ≤ m → i + k ≡ suc (length t) → Edge b t i → Linked i k
   linked zero i k g h edge = step i k h edge (λ x y z. absurd (omega arith))
   linked (suc m) i k g h edge = step i k h edge (λ x y z w u. linked m x y (omega arith) w u)
 
   pub taken-chain : Chain t 0 (takenLines (account b t))
-  taken-chain = subst (Chain t 0) (sym (account-taken b t ∙ ap (map (lineOf b t)) (taken-list b t))) (linked (suc (length t)) 0 (suc (length t)) (omega arith) (omega arith) (λ s e w h k. omega arith))
+  taken-chain =
+      subst (Chain t 0) (sym (account-taken b t ∙ ap (map (lineOf b t)) (taken-list b t)))
+      (linked (suc (length t)) 0 (suc (length t)) (omega arith) (omega arith) (λ s e w h k. omega arith))
 
 kept-length : (t : List ℕ) (a n : ℕ) → length (keptFrom t a n) ≡ n
 kept-length t a zero = refl

@@ -11,7 +11,7 @@ use borrow.Author.Tests.{eq-eqb, ne-eqb}
 use lib.Dec.{eqb}
 use lib.Bits.{bitAnd, bitOr}
 use lib.ListN.{length, getD}
-use Rattle.book.specs.Format.{mostRules}
+use Rattle.book.specs.Format.{mostRules, focusPart, rightPart}
 use Rattle.book.specs.Reading.{Book}
 use Rattle.book.specs.Language.{upFrom}
 use Rattle.sets.specs.Focus.{meetsAccept, meetsStart, focusFirst, openedBy, openedBelow}
@@ -31,11 +31,11 @@ module _ (b : Book) (n : ℕ) (masks : List ℕ) (m : Tests b n masks) where
     low : r < mostRules
     low = omega (arith, few)
 
-    accepting : meetsAccept b r 1 X ≡ not (eqb (bitAnd X (getD masks (focusAccepts r) 0)) 0)
-    accepting = accept-mask b (m .sound) r 1 X ∙ ap (λ (y : ℕ). not (eqb (bitAnd X y) 0)) (sym (m .accepts r low))
+    accepting : meetsAccept b r focusPart X ≡ not (eqb (bitAnd X (getD masks (focusAccepts r) 0)) 0)
+    accepting = accept-mask b (m .sound) r focusPart X ∙ ap (λ (y : ℕ). not (eqb (bitAnd X y) 0)) (sym (m .focus-accepts r low))
 
-    starting : meetsStart b r 2 R ≡ not (eqb (bitAnd R (getD masks (rightStarts r) 0)) 0)
-    starting = start-mask b (m .sound) r 2 R ∙ ap (λ (y : ℕ). not (eqb (bitAnd R y) 0)) (sym (m .starts r low))
+    starting : meetsStart b r rightPart R ≡ not (eqb (bitAnd R (getD masks (rightStarts r) 0)) 0)
+    starting = start-mask b (m .sound) r rightPart R ∙ ap (λ (y : ℕ). not (eqb (bitAnd R y) 0)) (sym (m .right-starts r low))
 
     pub miss-focus : bitAnd X (getD masks (focusAccepts r) 0) ≡ 0 → false ≡ hits b X R r
     unfolding hits
@@ -43,7 +43,7 @@ module _ (b : Book) (n : ℕ) (masks : List ℕ) (m : Tests b n masks) where
 
     pub miss-right : bitAnd R (getD masks (rightStarts r) 0) ≡ 0 → false ≡ hits b X R r
     unfolding hits
-    miss-right e = rw (starting, eq-eqb _ _ e) (sym (B.and-false (meetsAccept b r 1 X)))
+    miss-right e = rw (starting, eq-eqb _ _ e) (sym (B.and-false (meetsAccept b r focusPart X)))
 
     pub hit-both : bitAnd X (getD masks (focusAccepts r) 0) ≢ 0 → bitAnd R (getD masks (rightStarts r) 0) ≢ 0 → true ≡ hits b X R r
     unfolding hits
@@ -52,7 +52,7 @@ module _ (b : Book) (n : ℕ) (masks : List ℕ) (m : Tests b n masks) where
   -- no rule at an end: the set holds no focus accept at all
   pub none-hits : (X R : ℕ) → bitAnd X (getD masks allAccepts 0) ≡ 0 → (r : ℕ) → hits b X R r ≡ false
   unfolding hits
-  none-hits X R e r = ap (λ (c : Bool). c && meetsStart b r 2 R) (accept-none b (m .sound) r 1 X (sym (ap (bitAnd X) (m .any-accept)) ∙ e))
+  none-hits X R e r = ap (λ (c : Bool). c && meetsStart b r rightPart R) (accept-none b (m .sound) r focusPart X (sym (ap (bitAnd X) (m .all-accepts)) ∙ e))
 
   pub miss-all : (X R : ℕ) → bitAnd X (getD masks allAccepts 0) ≡ 0 → noRule ≡ hitRule b X R
   unfolding hitRule
@@ -60,14 +60,14 @@ module _ (b : Book) (n : ℕ) (masks : List ℕ) (m : Tests b n masks) where
 
   -- nothing starts: the right set holds no focus start at all
   pub none-first : (L R : ℕ) → bitAnd R (getD masks allStarts 0) ≡ 0 → 0 ≡ focusFirst b L R
-  none-first L R e = sym (Meaning.first-none b (m .sound) L R (sym (ap (bitAnd R) (m .any-first)) ∙ e))
+  none-first L R e = sym (Meaning.first-none b (m .sound) L R (sym (ap (bitAnd R) (m .all-starts)) ∙ e))
 
   -- what one rule opens, by its masks
   module _ (L r : ℕ) (known : r < n) where
     opening : openedBy b L r ≡ cond (eqb (bitAnd L (getD masks (leftAccepts r) 0)) 0) 0 (getD masks (focusStarts r) 0)
     opening =
         let low : r < mostRules = omega (arith, few) in
-        opened-mask b (m .sound) L r ∙ sym (ap₂ (λ (x y : ℕ). cond (eqb (bitAnd L x) 0) 0 y) (m .lefts r low) (m .firsts r low))
+        opened-mask b (m .sound) L r ∙ sym (ap₂ (λ (x y : ℕ). cond (eqb (bitAnd L x) 0) 0 y) (m .left-accepts r low) (m .focus-starts r low))
 
     pub open-not : bitAnd L (getD masks (leftAccepts r) 0) ≡ 0 → 0 ≡ openedBy b L r
     open-not e = rw (opening, eq-eqb _ _ e)

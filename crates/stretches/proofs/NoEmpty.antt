@@ -10,12 +10,12 @@ use native.Mathlib.Decide.{decLt}
 use lib.Dec.{T, eqb, eqb→eq, ltb, ltb→lt, lt→ltb}
 use lib.ListN.{length, take, drop}
 use lib.Seq.{slice, slice-empty}
+use Rattle.book.specs.Format.{focusPart, startFlag, acceptFlag, bothFlags}
 use Rattle.book.specs.Reading.{State, Book, checkDef, bookOf}
 use Rattle.book.specs.Language.{Rules, rules, rulesIn, upFrom, stateOf, flagged, isOf, starts, ends, isStart, isAccept, someState, accepts, leads}
 use Rattle.book.specs.Sound.{StateFits, Sound}
 use Rattle.book.proofs.Tests.{and-left, and-right, any-up, same-test}
-use Rattle.book.proofs.Accepted.{is-accepted}
-use Rattle.book.proofs.Sound.{accepted-sound}
+use Rattle.book.proofs.Claims.{sound}
 use Rattle.stretches.specs.Candidates.{candidate, someRule, lastOf, longest, fresh}
 use Rattle.stretches.specs.Sentences.{Candidate}
 use Rattle.stretches.proofs.Walks.{longest-low, some-far, test-some}
@@ -23,38 +23,41 @@ use Rattle.stretches.proofs.Walks.{longest-low, some-far, test-some}
 pub record NoEmpty (b : Rules) : Type 0 where
   pub none : (r : ℕ) → T (b .focus r []) → ⊥
 
--- flags 1 and 3 start, 2 and 3 accept: both is 3
-both-flags : (f : ℕ) → f ≤ 3 → T (flagged 1 f) → T (flagged 2 f) → f ≡ 3
+-- a state that starts and accepts has both flags
+both-flags : (f : ℕ) → f ≤ bothFlags → T (flagged startFlag f) → T (flagged acceptFlag f) → f ≡ bothFlags
 unfolding flagged
 both-flags zero h s a = absurd s
 both-flags (suc zero) h s a = absurd a
 both-flags (suc (suc zero)) h s a = absurd s
 both-flags (suc (suc (suc n))) h s a = omega arith
 
-focus-one : (st : State) → StateFits st → T (isOf 1 1 st) → T (isOf 1 2 st) → ⊥
+focus-one : (st : State) → StateFits st → T (isOf focusPart startFlag st) → T (isOf focusPart acceptFlag st) → ⊥
 focus-one st f s a =
-    let P = eqb (st .part) 1 in
-    let S = flagged 1 (st .flags) in
-    let A = flagged 2 (st .flags) in
-    f .focus (eqb→eq (st .part) 1 (and-left P S s)) (both-flags (st .flags) (f .flags) (and-right P S s) (and-right P A a))
+    let P = eqb (st .part) focusPart in
+    let S = flagged startFlag (st .flags) in
+    let A = flagged acceptFlag (st .flags) in
+    f .focus (eqb→eq (st .part) focusPart (and-left P S s)) (both-flags (st .flags) (f .flags) (and-right P S s) (and-right P A a))
 
 sound-no-empty : (b : Book) → Sound b → NoEmpty (rules b)
 unfolding accepts isStart isAccept leads
 sound-no-empty b h = record {
   none = λ r x.
-      let p = any-up (λ (p : ℕ). isStart b r 1 p && someState b (λ (q : ℕ). isAccept b r 1 q && leads (b .arcs) p [] q)) 0 (length (b .states)) .0 x in
+      let n = length (b .states) in
+      let accepting : ℕ → ℕ → Bool = λ s q. isAccept b r focusPart q && leads (b .arcs) s [] q in
+      let p = any-up (λ (s : ℕ). isStart b r focusPart s && someState b (accepting s)) 0 n .0 x in
       let s = p .0 in
       let R = eqb (stateOf b s .rule) r in
-      let S = and-left (isStart b r 1 s) (someState b (λ (q : ℕ). isAccept b r 1 q && leads (b .arcs) s [] q)) (p .3) in
-      let q = any-up (λ (q : ℕ). isAccept b r 1 q && leads (b .arcs) s [] q) 0 (length (b .states)) .0 (and-right (isStart b r 1 s) (someState b (λ (q : ℕ). isAccept b r 1 q && leads (b .arcs) s [] q)) (p .3)) in
-      let e = eqb→eq s (q .0) (and-right (isAccept b r 1 (q .0)) (leads (b .arcs) s [] (q .0)) (q .3)) in
-      let A = subst (λ (z : ℕ). T (isAccept b r 1 z)) (sym e) (and-left (isAccept b r 1 (q .0)) (leads (b .arcs) s [] (q .0)) (q .3)) in
+      let S = and-left (isStart b r focusPart s) (someState b (accepting s)) (p .3) in
+      let q = any-up (accepting s) 0 n .0 (and-right (isStart b r focusPart s) (someState b (accepting s)) (p .3)) in
+      let e = eqb→eq s (q .0) (and-right (isAccept b r focusPart (q .0)) (leads (b .arcs) s [] (q .0)) (q .3)) in
+      let here = and-left (isAccept b r focusPart (q .0)) (leads (b .arcs) s [] (q .0)) (q .3) in
+      let A = subst (λ (z : ℕ). T (isAccept b r focusPart z)) (sym e) here in
       let l = p .2 in
-      focus-one (stateOf b s) (h .state s (omega arith)) (and-right R (starts b 1 s) S) (and-right R (ends b 1 s) A);
+      focus-one (stateOf b s) (h .state s (omega arith)) (and-right R (starts b focusPart s) S) (and-right R (ends b focusPart s) A);
 }
 
 pub no-empty : (s : List ℕ) → checkDef s .reply ≡ 0 → NoEmpty (rulesIn s)
-no-empty s h = sound-no-empty (bookOf s) (accepted-sound s (bookOf s) (is-accepted s h))
+no-empty s h = sound-no-empty (bookOf s) (sound s h)
 
 module _ (b : Rules) (t : List ℕ) where
   -- of every batch: the end i itself does not matter to the longest
@@ -69,9 +72,9 @@ module _ (b : Rules) (t : List ℕ) where
       same false = refl
 
   module _ (n : NoEmpty b) where
-    none : (i r : ℕ) → T (candidate b t i i r) → ⊥
+    pub none-empty : (i r : ℕ) → T (candidate b t i i r) → ⊥
     unfolding candidate
-    none i r c =
+    none-empty i r c =
         let F = b .focus r (slice i i t) in let L = b .left r (take i t) in let G = b .right r (drop i t) in
         n .none r (subst (λ (w : List ℕ). T (b .focus r w)) (slice-empty i t) (and-left F L (and-left (F && L) G c)))
 
@@ -79,16 +82,17 @@ module _ (b : Rules) (t : List ℕ) where
     pub past-start : (i j r : ℕ) → Candidate b t i j r → i < j
     past-start i j r c =
         let o = c .ordered in
-        by-cases (decLt i j) (λ h. h) (λ h. let e : j ≡ i = omega arith in absurd (none i r (subst (λ (k : ℕ). T (candidate b t i k r)) e (c .holds))))
+        by-cases (decLt i j) (λ h. h) (λ h. let e : j ≡ i = omega arith in absurd (none-empty i r (subst (λ (k : ℕ). T (candidate b t i k r)) e (c .holds))))
 
     -- a start is taken where the longest is past it
     pub fresh-past : (i : ℕ) → fresh b t i ≡ record { start = i; end = longest b t i; taken = ltb i (longest b t i) }
     fresh-past i = ap (λ (c : Bool). record { start = i; end = longest b t i; taken = c })
-        (same-test (someRule b t i (longest b t i)) (ltb i (longest b t i)) (to, λ x. test-some b t i (longest b t i) (some-far b t i (ltb→lt i (longest b t i) x))))
+        (same-test (someRule b t i (longest b t i)) (ltb i (longest b t i))
+        (to, λ x. test-some b t i (longest b t i) (some-far b t i (ltb→lt i (longest b t i) x))))
       where
         to : T (someRule b t i (longest b t i)) → T (ltb i (longest b t i))
         to x = by-cases (decLt i (longest b t i)) (λ h. lt→ltb i (longest b t i) h)
             (λ h. let l = longest-low b t i in
             let e : longest b t i ≡ i = omega arith in
             let z = any-up (candidate b t i i) 0 (length (b .words)) .0 (subst (λ (j : ℕ). T (someRule b t i j)) e x) in
-            absurd (none i (z .0) (z .3)))
+            absurd (none-empty i (z .0) (z .3)))

@@ -18,8 +18,8 @@ use Rattle.stretches.specs.Candidates.{ruleOf}
 use Rattle.stretches.specs.Ready.{focusStarts, focusAccepts, rightStarts, allStarts, allAccepts, maskCount, Tests}
 use Rattle.stretches.proofs.outline.outline_of.Kinds as outline-kinds
 use Rattle.stretches.proofs.outline.outline_of.Reads as outline-reads
-use Rattle.stretches.proofs.walk.focus_first.Kinds as first-kinds
-use Rattle.stretches.proofs.walk.focus_first.Reads as first-reads
+use Rattle.stretches.proofs.walk.first_set.Kinds as first-kinds
+use Rattle.stretches.proofs.walk.first_set.Reads as first-reads
 use Rattle.stretches.proofs.walk.rule_hits.Kinds as hits-kinds
 use Rattle.stretches.proofs.walk.rule_hits.Reads as hits-reads
 use Rattle.stretches.proofs.walk.taken_at.Kinds as taken-kinds
@@ -33,21 +33,21 @@ module _ (b : Book) (rules : ℕ) (x y : List ℕ) (p : Tests b rules x) (q : Te
   last-masks : (k : ℕ) → allStarts - 1 < k → k < maskCount → Alike k
   last-masks k l h =
       by-cases (decLt k allAccepts)
-      (λ g. let e : allStarts ≡ k = omega arith in subst Alike e (p .any-first ∙ sym (q .any-first)))
-      (λ g. let e : allAccepts ≡ k = omega arith in subst Alike e (p .any-accept ∙ sym (q .any-accept)))
+      (λ g. let e : allStarts ≡ k = omega arith in subst Alike e (p .all-starts ∙ sym (q .all-starts)))
+      (λ g. let e : allAccepts ≡ k = omega arith in subst Alike e (p .all-accepts ∙ sym (q .all-accepts)))
 
   same-masks : SameArray maskCount x y
   same-masks k h =
-      by-cases (decLt k (focusStarts 0)) (λ g. p .lefts k (omega arith) ∙ sym (q .lefts k (omega arith)))
+      by-cases (decLt k (focusStarts 0)) (λ g. p .left-accepts k (omega arith) ∙ sym (q .left-accepts k (omega arith)))
       (λ a. by-cases (decLt k (focusAccepts 0))
       (λ g. let e : focusStarts (k - focusStarts 0) ≡ k = omega arith in
-      subst Alike e (p .firsts (k - focusStarts 0) (omega arith) ∙ sym (q .firsts (k - focusStarts 0) (omega arith))))
+      subst Alike e (p .focus-starts (k - focusStarts 0) (omega arith) ∙ sym (q .focus-starts (k - focusStarts 0) (omega arith))))
       (λ c. by-cases (decLt k (rightStarts 0))
       (λ g. let e : focusAccepts (k - focusAccepts 0) ≡ k = omega arith in
-      subst Alike e (p .accepts (k - focusAccepts 0) (omega arith) ∙ sym (q .accepts (k - focusAccepts 0) (omega arith))))
+      subst Alike e (p .focus-accepts (k - focusAccepts 0) (omega arith) ∙ sym (q .focus-accepts (k - focusAccepts 0) (omega arith))))
       (λ d. by-cases (decLt k allStarts)
       (λ g. let e : rightStarts (k - rightStarts 0) ≡ k = omega arith in
-      subst Alike e (p .starts (k - rightStarts 0) (omega arith) ∙ sym (q .starts (k - rightStarts 0) (omega arith))))
+      subst Alike e (p .right-starts (k - rightStarts 0) (omega arith) ∙ sym (q .right-starts (k - rightStarts 0) (omega arith))))
       (λ g. last-masks k (omega arith) h))))
 
 pub one-outline : Determines 1 outline-kinds.ps outline-kinds.r

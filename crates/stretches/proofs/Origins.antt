@@ -1,6 +1,6 @@
 -- The symbols and the origins of the output, stretch by stretch; and each output symbol with its origin is kept or of a replacement. Assumes
 -- nothing.
-use Prim.Native.Nat.{ℕ, zero, suc, _+_, _-_, _≤_, _<_}
+use Prim.Native.Nat.{ℕ, zero, suc, _+_, _-_, _≤_}
 use mathlib.Core.List.{List, [], _∷_, _++_, List·Memᴰ, List·Memᴰ·head, List·Memᴰ·tail, List·Memᴰ·append-cases, List·Memᴰ·eq-of-singleton}
 use mathlib.Core.Bool.{Bool, true, false, cond}
 use mathlib.Core.Path.{_≡_, refl, sym, subst, ap, ap₂, _∙_}
@@ -11,7 +11,7 @@ use lib.Seq.{slice, slice-cons, slice-empty, take-length}
 use Rattle.book.specs.Language.{Rules, upFrom}
 use Rattle.stretches.specs.Candidates.{Stretch, ruleOf, taken}
 use Rattle.stretches.specs.Output.{Mark, keptMarks, wordMarks, ruleWord, written, rewriting, symbolsOf, originsOf}
-use Rattle.stretches.specs.Account.{Line, each, account}
+use Rattle.stretches.specs.Account.{Line, account}
 use Rattle.stretches.specs.Sentences.{Takes, takenLines, Chain, keptFrom, replace, covered, keptSymbols, writtenWords}
 use Rattle.stretches.specs.Sentences.{Shuffled, none, left, right, symbolsFrom, wordOrigins, originsFrom, Traced, kept, replaced}
 use Rattle.stretches.proofs.Lists.{each-out}

@@ -8,11 +8,11 @@ use native.Mathlib.Decide.{ℕ-discrete}
 use native.Mathlib.Nat.{zero-add}
 use lib.ListN.{length, getD, set, length-set}
 use lib.Seq.{getD-set-same, getD-set-other}
-use Rattle.book.specs.Format.{mostRules}
+use Rattle.book.specs.Format.{mostRules, leftPart, focusPart, rightPart, startFlag, acceptFlag}
 use Rattle.book.specs.Reading.{State, Book}
 use Rattle.book.specs.Sound.{Sound}
 use Rattle.book.specs.Outline.{allMask, EachMask}
-use Rattle.stretches.specs.Ready.{maskCount, KindPut, Tests}
+use Rattle.stretches.specs.Ready.{leftAccepts, focusStarts, focusAccepts, rightStarts, allStarts, allAccepts, maskCount, KindPut, Tests}
 
 -- the first n of them stand from `at` on
 pub record Putting (each : List ℕ) (at : ℕ) (l₀ l : List ℕ) (n : ℕ) : Type 0 where
@@ -42,7 +42,8 @@ putting-turn each at l₀ l n was h room = record {
     one r g (yes e) = rw e (getD-set-same l (at + n) (getD each n 0) 0 (omega (arith, was .same)))
     one r g (no e) = other (at + r) (λ z. e (omega arith)) ∙ was .here r (omega arith)
 
-pub putting-end : (part flag : ℕ) (states : List State) (each : List ℕ) (at : ℕ) (l₀ l : List ℕ) (n : ℕ) → EachMask part flag states each → Putting each at l₀ l n → mostRules ≤ n
+pub putting-end : (part flag : ℕ) (states : List State) (each : List ℕ) (at : ℕ) (l₀ l : List ℕ) (n : ℕ) → EachMask part flag states each
+    → Putting each at l₀ l n → mostRules ≤ n
     → KindPut part flag states at l₀ l
 putting-end part flag states each at l₀ l n m was h =
     let w = was .within in
@@ -55,21 +56,33 @@ putting-end part flag states each at l₀ l n m was h =
 
 -- all four kinds, and the masks of all rules
 module _ (b : Book) (l₀ l₁ l₂ l₃ l₄ : List ℕ) (starts accepts : ℕ) (long : length l₀ ≡ maskCount)
-    (lefts : KindPut 0 2 (b .states) 0 l₀ l₁) (firsts : KindPut 1 1 (b .states) 16 l₁ l₂) (focus : KindPut 1 2 (b .states) 32 l₂ l₃) (rights : KindPut 2 1 (b .states) 48 l₃ l₄) where
+    (lefts : KindPut leftPart acceptFlag (b .states) (leftAccepts 0) l₀ l₁)
+    (firsts : KindPut focusPart startFlag (b .states) (focusStarts 0) l₁ l₂)
+    (focus : KindPut focusPart acceptFlag (b .states) (focusAccepts 0) l₂ l₃)
+    (rights : KindPut rightPart startFlag (b .states) (rightStarts 0) l₃ l₄) where
   same : length l₄ ≡ maskCount
   same = rights .same ∙ focus .same ∙ firsts .same ∙ lefts .same ∙ long
 
-  before : (k : ℕ) → k < 64 → getD (set (set l₄ 64 starts) 65 accepts) k 0 ≡ getD l₄ k 0
-  before k h = getD-set-other (set l₄ 64 starts) 65 k accepts 0 (λ e. omega arith) ∙ getD-set-other l₄ 64 k starts 0 (λ e. omega arith)
+  abbrev with-starts : List ℕ
+  with-starts = set l₄ allStarts starts
 
-  pub all-tests : Sound b → starts ≡ allMask 1 1 (b .states) → accepts ≡ allMask 1 2 (b .states) → Tests b (length (b .words)) (set (set l₄ 64 starts) 65 accepts)
+  before : (k : ℕ) → k < allStarts → getD (set with-starts allAccepts accepts) k 0 ≡ getD l₄ k 0
+  before k h = getD-set-other with-starts allAccepts k accepts 0 (λ e. omega arith) ∙ getD-set-other l₄ allStarts k starts 0 (λ e. omega arith)
+
+  pub all-tests : Sound b → starts ≡ allMask focusPart startFlag (b .states) → accepts ≡ allMask focusPart acceptFlag (b .states)
+      → Tests b (length (b .words)) (set (set l₄ allStarts starts) allAccepts accepts)
   all-tests o e f = record {
     sound = o;
     many = refl;
-    lefts = λ r h. before r (omega arith) ∙ rights .low r (omega arith) ∙ focus .low r (omega arith) ∙ firsts .low r h ∙ ap (λ (k : ℕ). getD l₁ k 0) (sym (zero-add r)) ∙ lefts .here r h;
-    firsts = λ r h. before (16 + r) (omega arith) ∙ rights .low (16 + r) (omega arith) ∙ focus .low (16 + r) (omega arith) ∙ firsts .here r h;
-    accepts = λ r h. before (32 + r) (omega arith) ∙ rights .low (32 + r) (omega arith) ∙ focus .here r h;
-    starts = λ r h. before (48 + r) (omega arith) ∙ rights .here r h;
-    any-first = getD-set-other (set l₄ 64 starts) 65 64 accepts 0 (λ e. omega arith) ∙ getD-set-same l₄ 64 starts 0 (omega (arith, same)) ∙ e;
-    any-accept = getD-set-same (set l₄ 64 starts) 65 accepts 0 (omega (arith, same, length-set l₄ 64 starts)) ∙ f;
+    left-accepts = λ r h.
+        before r (omega arith) ∙ rights .low r (omega arith) ∙ focus .low r (omega arith) ∙ firsts .low r h
+        ∙ ap (λ (k : ℕ). getD l₁ k 0) (sym (zero-add r)) ∙ lefts .here r h;
+    focus-starts = λ r h.
+        let k = focusStarts r in
+        before k (omega arith) ∙ rights .low k (omega arith) ∙ focus .low k (omega arith) ∙ firsts .here r h;
+    focus-accepts = λ r h. before (focusAccepts r) (omega arith) ∙ rights .low (focusAccepts r) (omega arith) ∙ focus .here r h;
+    right-starts = λ r h. before (rightStarts r) (omega arith) ∙ rights .here r h;
+    all-starts =
+        getD-set-other with-starts allAccepts allStarts accepts 0 (λ e. omega arith) ∙ getD-set-same l₄ allStarts starts 0 (omega (arith, same)) ∙ e;
+    all-accepts = getD-set-same with-starts allAccepts accepts 0 (omega (arith, same, length-set l₄ allStarts starts)) ∙ f;
   }

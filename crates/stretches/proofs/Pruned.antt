@@ -1,5 +1,5 @@
--- The walk from a start, as the account uses it: at each end the two tests are those of a candidate, and where no state is left no candidate ends
--- later. Assumes nothing.
+-- The walk from a start: at each end the two tests are those of a candidate, and where no state is left no candidate ends later.
+-- Assumes nothing.
 use Prim.Native.Nat.{ℕ, suc, _+_, _≤_, _<_}
 use mathlib.Core.Path.{_≡_, sym, ap, _∙_}
 use mathlib.Core.Bool.{_&&_}
@@ -8,43 +8,51 @@ use native.Mathlib.Omega.{arith}
 use native.Mathlib.Numerals.{add-one}
 use lib.Dec.{T}
 use lib.ListN.{length, getD}
+use Rattle.book.specs.Format.{focusPart, rightPart}
 use Rattle.book.specs.Reading.{Book, bookOf}
 use Rattle.book.specs.Language.{rulesIn}
+use Rattle.book.proofs.Claims.{sound}
 use Rattle.sets.specs.Sets.{leftAt, rightAt}
 use Rattle.sets.specs.Focus.{focusAt, focusFirst, focusNext, meetsAccept, meetsStart}
-use Rattle.sets.specs.Numbering.{mostSets}
+use Rattle.sets.specs.Tables.{rightSet}
 use Rattle.sets.proofs.Meaning.{focus-first, focus-next}
 use Rattle.stretches.specs.Candidates.{candidate}
 use Rattle.stretches.specs.Ready.{RightSets}
 use Rattle.stretches.specs.Position.{hits}
 use Rattle.stretches.proofs.CandidateSets.{candidate-test, dead}
-use Rattle.stretches.proofs.Scans.{sound-of}
 
+-- the walk from i has come to j, and its states there are `set`
 pub record Pruned (b : Book) (t : List ℕ) (i j set : ℕ) : Type 0 where
   pub low : i ≤ j
   pub high : j ≤ length t
   pub states : set ≡ focusAt b t i j
 
 module _ (book tape sets scratch : List ℕ) (seen : RightSets book tape sets scratch) (i : ℕ) where
-  pub pruned-start : (L R F : ℕ) → i ≤ length tape → L ≡ leftAt (bookOf book) tape i → R ≡ getD sets (mostSets + getD scratch i 0) 0 → F ≡ focusFirst (bookOf book) L R
-      → Pruned (bookOf book) tape i i F
-  pruned-start L R F k e f g = record { low = omega arith; high = k; states = rw (g, e, f, seen .right i k) (sym (focus-first (bookOf book) tape i)) }
+  abbrev b : Book
+  b = bookOf book
 
-  module _ (j set : ℕ) (was : Pruned (bookOf book) tape i j set) where
-    module _ (inside : j < length tape) (R X : ℕ) (e : R ≡ getD sets (mostSets + getD scratch (j + 1) 0) 0) (f : X ≡ focusNext (bookOf book) set (getD tape j 0) R) where
-      right-here : R ≡ rightAt (bookOf book) tape (suc j)
-      right-here = e ∙ ap (λ (k : ℕ). getD sets (mostSets + getD scratch k 0) 0) (add-one j) ∙ seen .right (suc j) inside
+  pub pruned-start : (L R F : ℕ) → i ≤ length tape → L ≡ leftAt b tape i → R ≡ rightSet sets (getD scratch i 0) → F ≡ focusFirst b L R
+      → Pruned b tape i i F
+  pruned-start L R F k e f g = record { low = omega arith; high = k; states = rw (g, e, f, seen .right i k) (sym (focus-first b tape i)) }
 
-      next-set : X ≡ focusAt (bookOf book) tape i (suc j)
-      next-set = f ∙ rw (was .states, right-here) (sym (focus-next (bookOf book) tape i j (was .low) inside))
+  module _ (j set : ℕ) (was : Pruned b tape i j set) where
+    module _ (inside : j < length tape) (R X : ℕ) (e : R ≡ rightSet sets (getD scratch (j + 1) 0)) (f : X ≡ focusNext b set (getD tape j 0) R) where
+      right-here : R ≡ rightAt b tape (suc j)
+      right-here = e ∙ ap (λ (k : ℕ). rightSet sets (getD scratch k 0)) (add-one j) ∙ seen .right (suc j) inside
 
-      pub pruned-turn : Pruned (bookOf book) tape i (j + 1) X
-      pruned-turn = let l = was .low in rw add-one (record { low = omega arith; high = inside; states = next-set })
+      next-set : X ≡ focusAt b tape i (suc j)
+      next-set = f ∙ rw (was .states, right-here) (sym (focus-next b tape i j (was .low) inside))
 
-      pub pruned-hits : (r : ℕ) → hits (bookOf book) X R r ≡ candidate (rulesIn book) tape i (suc j) r
+      pub pruned-next : Pruned b tape i (suc j) X
+      pruned-next = let l = was .low in record { low = omega arith; high = inside; states = next-set }
+
+      pub pruned-turn : Pruned b tape i (j + 1) X
+      pruned-turn = rw add-one pruned-next
+
+      pub pruned-hits : (r : ℕ) → hits b X R r ≡ candidate (rulesIn book) tape i (suc j) r
       unfolding hits
-      pruned-hits r = sym (candidate-test (bookOf book) (sound-of book (seen .accepted)) tape i r (suc j) (let l = was .low in omega arith)
-          ∙ (λ x. meetsAccept (bookOf book) r 1 (sym next-set x) && meetsStart (bookOf book) r 2 (sym right-here x)))
+      pruned-hits r = sym (candidate-test b (sound book (seen .accepted)) tape i r (suc j) (let l = was .low in omega arith)
+          ∙ (λ x. meetsAccept b r focusPart (sym next-set x) && meetsStart b r rightPart (sym right-here x)))
 
     pub pruned-dead : set ≡ 0 → (r k : ℕ) → j ≤ k → T (candidate (rulesIn book) tape i k r) → ⊥
-    pruned-dead z r k h = dead (bookOf book) (sound-of book (seen .accepted)) tape i r j k (was .low) h (sym (was .states) ∙ z)
+    pruned-dead z r k h = dead b (sound book (seen .accepted)) tape i r j k (was .low) h (sym (was .states) ∙ z)

@@ -9,11 +9,11 @@ use lib.Bits.{bitAnd}
 use lib.ListN.{getD, set, replicate, length-set, length-replicate, getD-replicate}
 use lib.Seq.{getD-set-same, getD-set-other}
 use Rattle.book.specs.Reading.{Book, checkDef, bookOf}
+use Rattle.book.proofs.Claims.{sound}
 use Rattle.sets.specs.Focus.{focusStep, focusNext}
 use Rattle.sets.proofs.Meaning as Meaning
 use Rattle.sets.proofs.Meaning.{step-none}
 use Rattle.stretches.specs.Ready.{slotCount, afterStep, Remembers}
-use Rattle.stretches.proofs.Scans.{sound-of}
 
 -- the steps of the empty set
 zero-at : (n k : ℕ) → k < n → getD (replicate {A = ℕ} n 0) k 0 ≡ 0
@@ -28,7 +28,8 @@ remembers-start b = record {
 }
 
 -- a step of this set on this symbol is found
-pub remembers-seen : (b : Book) (S A : List ℕ) (k x a : ℕ) → Remembers b S A → k < slotCount → getD S k 0 ≡ x → getD A k 0 ≡ a → getD S (afterStep k) 0 ≡ focusStep b x a
+pub remembers-seen : (b : Book) (S A : List ℕ) (k x a : ℕ) → Remembers b S A → k < slotCount → getD S k 0 ≡ x → getD A k 0 ≡ a
+    → getD S (afterStep k) 0 ≡ focusStep b x a
 remembers-seen b S A k x a was h e f = was .step k h ∙ ap₂ (focusStep b) e f
 
 -- one is put in its place
@@ -48,7 +49,8 @@ module _ (b : Book) (S A : List ℕ) (k x a y : ℕ) (was : Remembers b S A) (h 
       one m l (yes z) =
           rw z (getD-set-same (set S k x) (afterStep k) y 0 (omega (arith, was .steps-room, length-set S k x))
           ∙ e
-          ∙ sym (ap₂ (focusStep b) (before k h ∙ getD-set-same S k x 0 (omega (arith, was .steps-room))) (getD-set-same A k a 0 (omega (arith, was .symbols-room)))))
+          ∙ sym (ap₂ (focusStep b) (before k h ∙ getD-set-same S k x 0 (omega (arith, was .steps-room)))
+          (getD-set-same A k a 0 (omega (arith, was .symbols-room)))))
       one m l (no z) =
           getD-set-other (set S k x) (afterStep k) (afterStep m) y 0 (λ q. z (omega arith))
           ∙ getD-set-other S k (afterStep m) x 0 (λ q. omega arith)
@@ -57,4 +59,4 @@ module _ (b : Book) (S A : List ℕ) (k x a y : ℕ) (was : Remembers b S A) (h 
 
 -- the step of the focus, cut to the right set
 pub step-pruned : (book : List ℕ) → checkDef book .reply ≡ 0 → (F a R x : ℕ) → x ≡ focusStep (bookOf book) F a → bitAnd x R ≡ focusNext (bookOf book) F a R
-step-pruned book h F a R x e = ap (λ (y : ℕ). bitAnd y R) e ∙ Meaning.step-pruned (bookOf book) (sound-of book h) F a R
+step-pruned book h F a R x e = ap (λ (y : ℕ). bitAnd y R) e ∙ Meaning.step-pruned (bookOf book) (sound book h) F a R

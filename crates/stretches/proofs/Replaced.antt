@@ -14,7 +14,8 @@ use Rattle.stretches.specs.Account.{Line, each, account}
 use Rattle.stretches.specs.Sentences.{takenLines, lineOf, keptFrom, replace}
 use borrow.Author.Tests.{lt-ltb, le-ltb}
 use Rattle.stretches.proofs.Lists.{each-none, each-split}
-use Rattle.stretches.proofs.Walks.{over, over-mid, tape-over, symbolAt, symbol-at, symbol-end, Walked, walked-over, Some, Place, inside, begins, alone, place}
+use Rattle.stretches.proofs.Walks.{over, over-mid, tape-over, symbolAt, symbol-at, symbol-end, Walked, walked-over, Some, Place, inside}
+use Rattle.stretches.proofs.Walks.{begins, alone, place}
 use Rattle.stretches.proofs.Stretches.{stretch, tk, tk-inside, tk-begins, tk-alone, taken-list}
 use Rattle.stretches.proofs.Rewritings.{said, walked-one, walked-apart}
 use Rattle.stretches.proofs.Accounts.{account-taken}
@@ -31,12 +32,15 @@ low-down i (l ∷ ls) h = omega arith
 pub kept-one : (t : List ℕ) (a n : ℕ) → a < n → keptFrom t a (n - a) ≡ keptMarks (getD t a 0 ∷ []) a ++ keptFrom t (suc a) (n - suc a)
 kept-one t a n h = let e : n - a ≡ suc (n - suc a) = omega arith in ap (keptFrom t a) e
 
-pub replace-keep : (b : Rules) (t : List ℕ) (i : ℕ) (ls : List Line) → i < length t → Low (suc i) ls → replace b t i ls ≡ keptMarks (getD t i 0 ∷ []) i ++ replace b t (suc i) ls
+pub replace-keep : (b : Rules) (t : List ℕ) (i : ℕ) (ls : List Line) → i < length t → Low (suc i) ls
+    → replace b t i ls ≡ keptMarks (getD t i 0 ∷ []) i ++ replace b t (suc i) ls
 replace-keep b t i [] h k = kept-one t i (length t) h
-replace-keep b t i (l ∷ ls) h k = ap (λ (x : List Mark). x ++ (wordMarks (ruleWord b (l .rule)) (l .start) (l .end) ++ replace b t (l .end) ls)) (kept-one t i (l .start) k)
+replace-keep b t i (l ∷ ls) h k =
+    ap (λ (x : List Mark). x ++ (wordMarks (ruleWord b (l .rule)) (l .start) (l .end) ++ replace b t (l .end) ls)) (kept-one t i (l .start) k)
 
 -- nothing is said inside a taken stretch
-pub skip {ℓ} : {A : Type ℓ} (f : ℕ → List A) (i k e : ℕ) → i < e → e ≤ suc i + k → ((x : ℕ) → i < x → x < e → f x ≡ []) → each f (suc i) k ≡ each f e (suc i + k - e)
+pub skip {ℓ} : {A : Type ℓ} (f : ℕ → List A) (i k e : ℕ) → i < e → e ≤ suc i + k → ((x : ℕ) → i < x → x < e → f x ≡ [])
+    → each f (suc i) k ≡ each f e (suc i + k - e)
 skip f i k e h g n =
     let m = e - suc i in
     let p : k ≡ m + (suc i + k - e) = omega arith in
@@ -81,7 +85,9 @@ module _ (b : Rules) (t : List ℕ) where
   edge-alone i m h s e w p q = by-cases (ℕ-discrete s i) (λ g. m e (subst (λ (x : ℕ). Walked b t x e) g w .some)) (λ g. h s e w (omega arith) (omega arith))
 
   pub edge-empty : (i : ℕ) → Walked b t i i → Edge (suc i)
-  edge-empty i v s e w p q = by-cases (ℕ-discrete s i) (λ g. let x = walked-one b t (subst (λ (z : ℕ). Walked b t z e) g w) v in omega arith) (λ g. walked-apart b t w (omega arith) (omega arith) v)
+  edge-empty i v s e w p q =
+      by-cases (ℕ-discrete s i) (λ g. let x = walked-one b t (subst (λ (z : ℕ). Walked b t z e) g w) v in omega arith)
+      (λ g. walked-apart b t w (omega arith) (omega arith) v)
 
   pub edge-end : (i e : ℕ) → i < e → Walked b t i e → Edge e
   edge-end i e k w s f v p q = by-cases (ℕ-discrete s i)
@@ -96,7 +102,8 @@ module _ (b : Rules) (t : List ℕ) where
   keep-on i zero h =
       let e : length t - i ≡ 0 = omega arith in
       let f : length t - suc i ≡ 0 = omega arith in
-      ap (keptFrom t i) e ∙ sym (ap (λ (x : ℕ). keptFrom t (suc i) x) f) ∙ sym (ap (λ (x : List ℕ). keptMarks x i ++ keptFrom t (suc i) (length t - suc i)) (symbol-end b t i (omega arith)))
+      ap (keptFrom t i) e ∙ sym (ap (λ (x : ℕ). keptFrom t (suc i) x) f)
+      ∙ sym (ap (λ (x : List ℕ). keptMarks x i ++ keptFrom t (suc i) (length t - suc i)) (symbol-end b t i (omega arith)))
   keep-on i (suc k) h =
       let g : i < length t = omega arith in
       replace-keep b t i (ds (suc i) (suc k)) g (ds-low (suc k) (suc i) (omega arith))
@@ -130,7 +137,8 @@ module _ (b : Rules) (t : List ℕ) where
               ap (λ x. x ++ each (said b t) (suc i) k) (said-begins i e p o)
               ∙ ap (λ x. written b t i e ++ x) (skip (said b t) i k e p (omega arith) (λ x u v. said-inside x i e u (over-of i e w x u v))
               ∙ ih e (suc i + k - e) (omega arith) (omega arith) (edge-end i e p w)
-              ∙ ap (λ (x : List Stretch). replace b t e (map (lineOf b t) x)) (sym (skip (tk b t) i k e p (omega arith) (λ x u v. tk-inside b t x i e u (over-of i e w x u v)))))
+              ∙ ap (λ (x : List Stretch). replace b t e (map (lineOf b t) x))
+              (sym (skip (tk b t) i k e p (omega arith) (λ x u v. tk-inside b t x i e u (over-of i e w x u v)))))
               ∙ ap (λ (x : ℕ). keptFrom t i x ++ (written b t i e ++ replace b t e (ds (suc i) k))) (sym z)
               ∙ sym (ap tail (tk-begins b t i e o))
 
@@ -142,7 +150,8 @@ module _ (b : Rules) (t : List ℕ) where
               let u = o ∙ ap (stretch i) q in
               ap (λ x. x ++ each (said b t) (suc i) k) (said-empty i u)
               ∙ append-assoc (written b t i i) (keptMarks (symbolAt b t i) i) (each (said b t) (suc i) k)
-              ∙ ap (λ x. written b t i i ++ x) (ap (λ x. keptMarks (symbolAt b t i) i ++ x) (ih (suc i) k (omega arith) (omega arith) (edge-empty i v)) ∙ sym (keep-on i k h))
+              ∙ ap (λ x. written b t i i ++ x) (ap (λ x. keptMarks (symbolAt b t i) i ++ x) (ih (suc i) k (omega arith) (omega arith) (edge-empty i v))
+              ∙ sym (keep-on i k h))
               ∙ ap (λ (x : ℕ). keptFrom t i x ++ (written b t i i ++ replace b t i (ds (suc i) k))) (sym z)
               ∙ sym (ap tail (tk-begins b t i i u))
 

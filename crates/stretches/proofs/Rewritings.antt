@@ -17,7 +17,8 @@ use Rattle.stretches.specs.Paper.{Context, start, end, Earliest, CLML, P
 use borrow.Author.Tests.{lt-ltb, le-ltb}
 use Rattle.stretches.proofs.Lists.{each-snoc, each-same}
 use Rattle.stretches.proofs.Words.{empty-end, end-empty}
-use Rattle.stretches.proofs.Walks.{Some, over, over-mid, tape-over, symbolAt, symbol-at, symbol-end, Walked, walked-over, lml-walked, Place, inside, begins, alone, place}
+use Rattle.stretches.proofs.Walks.{Some, over, over-mid, tape-over, symbolAt, symbol-at, symbol-end, Walked, walked-over, lml-walked, Place}
+use Rattle.stretches.proofs.Walks.{inside, begins, alone, place}
 use Rattle.stretches.proofs.Stretches.{stretch, taken-walked, taken-paper, rule-paper}
 
 module _ (b : Rules) (t : List ℕ) where
@@ -43,7 +44,8 @@ module _ (b : Rules) (t : List ℕ) where
   said-parts i (inside s e w h k o) = said-is i (stretch s e) o ∙ rw (lt-ltb s i h)
   said-parts i (begins e w o) = said-is i (stretch i e) o ∙ rw (le-ltb i i (omega arith)) (go (ltb i e))
     where
-      go : (c : Bool) → written b t i e ++ cond c [] (keptMarks (symbolAt b t i) i) ≡ cond c [] (written b t i e) ++ cond c (written b t i e) (keptMarks (symbolAt b t i) i)
+      go : (c : Bool)
+          → written b t i e ++ cond c [] (keptMarks (symbolAt b t i) i) ≡ cond c [] (written b t i e) ++ cond c (written b t i e) (keptMarks (symbolAt b t i) i)
       go true = append-nil (written b t i e)
       go false = refl
   said-parts i (alone n o) = said-is i (record { start = i; end = i; taken = false }) o ∙ rw (le-ltb i i (omega arith))
@@ -87,18 +89,22 @@ module _ (b : Rules) (t : List ℕ) where
 
   put-word : (c : Context) (i e : ℕ) → CLML b t c → start c ≡ i → end c ≡ e → e ≡ i → Put b t i (written b t i e)
   unfolding contextWord
-  put-word c i e x p q h = let E = is-earliest c i e x p q in subst (Put b t i) (word-is c (ruleOf b t i e) i e x E p q) (Put.word c (ruleOf b t i e) x p (end-empty (c .u) (c .v) (q ∙ h ∙ sym p)) E)
+  put-word c i e x p q h =
+      let E = is-earliest c i e x p q in
+      subst (Put b t i) (word-is c (ruleOf b t i e) i e x E p q) (Put.word c (ruleOf b t i e) x p (end-empty (c .u) (c .v) (q ∙ h ∙ sym p)) E)
 
   piece-word : (c : Context) (i e : ℕ) → CLML b t c → start c ≡ i → end c ≡ e → i < e → Piece b t i (written b t i e)
   unfolding contextWord
-  piece-word c i e x p q h = let E = is-earliest c i e x p q in subst (Piece b t i) (word-is c (ruleOf b t i e) i e x E p q) (Piece.word c (ruleOf b t i e) x p (omega arith) E)
+  piece-word c i e x p q h =
+      let E = is-earliest c i e x p q in subst (Piece b t i) (word-is c (ruleOf b t i e) i e x E p q) (Piece.word c (ruleOf b t i e) x p (omega arith) E)
 
   put-in : (i : ℕ) (p : Place b t i) → Put b t i (putAt i p)
   unfolding putAt
   put-in i (inside s e w h k o) = Put.none (λ c x p q. walked-apart w h k (lml-at c i x p))
   put-in i (alone n o) = Put.none (λ c x p q. n (end c) (lml-at c i x p .some))
   put-in i (begins e w o) = by-cases (decLt i e)
-      (λ h. subst (Put b t i) (sym (ap (λ (z : Bool). cond z [] (written b t i e)) (lt-ltb i e h))) (Put.none (λ c x p q. let z = walked-one w (lml-at c i x p) in let f = empty-end (c .u) (c .v) q in omega arith)))
+      (λ h. subst (Put b t i) (sym (ap (λ (z : Bool). cond z [] (written b t i e)) (lt-ltb i e h)))
+      (Put.none (λ c x p q. let z = walked-one w (lml-at c i x p) in let f = empty-end (c .u) (c .v) q in omega arith)))
       (λ h. let l = w .some .cand .ordered in
       let g : e ≡ i = omega arith in
       let z = in-lml i e w in
@@ -133,7 +139,8 @@ module _ (b : Rules) (t : List ℕ) where
       (λ h. let z = in-lml i e w in let q = z .3 in
       subst (Piece b t i) (sym (ap (λ (z : Bool). cond z (written b t i e) (keptMarks (symbolAt b t i) i)) (lt-ltb i e h)))
       (piece-word (z .0) i e (z .1) (z .2) (z .3) h))
-      (λ h. subst (Piece b t i) (sym (ap (λ (z : Bool). cond z (written b t i e) (keptMarks (symbolAt b t i) i)) (le-ltb i e (omega arith)))) (kept-in i n (bare-begins i e (omega arith) w)))
+      (λ h. subst (Piece b t i) (sym (ap (λ (z : Bool). cond z (written b t i e) (keptMarks (symbolAt b t i) i)) (le-ltb i e (omega arith))))
+      (kept-in i n (bare-begins i e (omega arith) w)))
 
   -- and nothing else does
   put-out : (i : ℕ) (p : Place b t i) (x : List Mark) → Put b t i x → x ≡ putAt i p
@@ -148,13 +155,15 @@ module _ (b : Rules) (t : List ℕ) where
       word-is c r i e y z p (sym g) ∙ sym (ap (λ (z : Bool). cond z [] (written b t i e)) (le-ltb i e (omega arith)))
   put-out i (begins e w o) x (Put.none m) = by-cases (decLt i e)
       (λ h. sym (ap (λ (z : Bool). cond z [] (written b t i e)) (lt-ltb i e h)))
-      (λ h. let l = w .some .cand .ordered in let z = in-lml i e w in let p = z .2 in let q = z .3 in absurd (m (z .0) (z .1) p (end-empty (z .0 .u) (z .0 .v) (omega arith))))
+      (λ h. let l = w .some .cand .ordered in let z = in-lml i e w in let p = z .2 in let q = z .3 in
+      absurd (m (z .0) (z .1) p (end-empty (z .0 .u) (z .0 .v) (omega arith))))
 
   piece-out : (i : ℕ) (p : Place b t i) → i < length t → (x : List Mark) → Piece b t i x → x ≡ pieceAt i p
   unfolding pieceAt contextWord
   piece-out i (inside s e w h k o) n x (Piece.word c r y p q z) = absurd (walked-apart w h k (lml-at c i y p))
   piece-out i (inside s e w h k o) n x (Piece.gone c y p q) = refl
-  piece-out i (inside s e w h k o) n x (Piece.kept m) = let z = in-lml s e w in let p = z .2 in let q = z .3 in absurd (m (z .0) (z .1) (omega arith) (omega arith))
+  piece-out i (inside s e w h k o) n x (Piece.kept m) =
+      let z = in-lml s e w in let p = z .2 in let q = z .3 in absurd (m (z .0) (z .1) (omega arith) (omega arith))
   piece-out i (alone m o) n x (Piece.word c r y p q z) = absurd (m (end c) (lml-at c i y p .some))
   piece-out i (alone m o) n x (Piece.gone c y p q) = absurd (bare-alone i m o (start c) (end c) (of-lml c y) (omega arith) q)
   piece-out i (alone m o) n x (Piece.kept k) = sym (symbol-kept i n)
@@ -201,7 +210,9 @@ module _ (b : Rules) (t : List ℕ) where
       y = λ (i : ℕ). y-of i (decLe i (length t));
       piece = λ i h. pieces i h (decLe i (length t));
       put = λ i h. puts i h (decLe i (length t));
-      whole = e ∙ rewriting-each ∙ ap₂ (λ x y. x ++ y) (each-same said (λ (i : ℕ). y-of i (decLe i (length t)) ++ x-of i (decLe i (length t))) 0 (length t) (λ k h g. both k (omega arith) (decLe k (length t)))) (last (decLe (length t) (length t)));
+      whole =
+          e ∙ rewriting-each ∙ ap₂ (λ x y. x ++ y) (each-same said (λ (i : ℕ). y-of i (decLe i (length t)) ++ x-of i (decLe i (length t))) 0 (length t)
+          (λ k h g. both k (omega arith) (decLe k (length t)))) (last (decLe (length t) (length t)));
     },
   )
     where
@@ -209,7 +220,8 @@ module _ (b : Rules) (t : List ℕ) where
       uniq r = r .whole ∙ ap₂ (λ x y. x ++ y) (each-same (λ (i : ℕ). r .y i ++ r .x i) said 0 (length t)
           (λ k h g. let q : k ≤ length t = omega arith in let p = place b t k q in
           ap₂ (λ x y. x ++ y) (put-out k p (r .y k) (r .put k q)) (piece-out k p (omega arith) (r .x k) (r .piece k (omega arith))) ∙ sym (said-parts k p)))
-          (let q : length t ≤ length t = omega arith in let p = place b t (length t) q in put-out (length t) p (r .y (length t)) (r .put (length t) q) ∙ sym (said-end p)) ∙ sym rewriting-each
+          (let q : length t ≤ length t = omega arith in let p = place b t (length t) q in put-out (length t) p (r .y (length t)) (r .put (length t) q)
+          ∙ sym (said-end p)) ∙ sym rewriting-each
 
       pieces : (i : ℕ) → i < length t → (d : Dec (i ≤ length t)) → Piece b t i (x-of i d)
       pieces i h (yes k) = piece-in i (place b t i k) h

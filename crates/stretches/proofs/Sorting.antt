@@ -33,15 +33,20 @@ numbers-before (l ∷ ls) p (suc j) (suc k) h g = numbers-before ls (p .1) j k (
 
 pub sorted-once : (ls : List Line) → Sorted ls → (j k : ℕ) → j < length ls → k < length ls → SameCandidate (lineNumber ls j) (lineNumber ls k) → j ≡ k
 sorted-once ls p j k h g e = by-cases (decLt j k) (λ l. absurd (before-other (lineNumber ls j) (lineNumber ls k) (numbers-before ls p j k l g) e))
-    (λ l. by-cases (decLt k j) (λ m. absurd (before-other (lineNumber ls k) (lineNumber ls j) (numbers-before ls p k j m h) (record { start = sym (e .start); end = sym (e .end); rule = sym (e .rule) })))
+    (λ l. by-cases (decLt k j) (λ m. absurd (before-other (lineNumber ls k) (lineNumber ls j) (numbers-before ls p k j m h)
+    (record { start = sym (e .start); end = sym (e .end); rule = sym (e .rule) })))
     (λ m. omega arith))
 
 sorted-append : (xs ys : List Line) → Sorted xs → Sorted ys → ((x y : Line) → List·Memᴰ x xs → List·Memᴰ y ys → Before x y) → Sorted (xs ++ ys)
 sorted-append [] ys p q h = q
-sorted-append (x ∷ xs) ys p q h =
-    (λ m z. ⊎-elim (λ w. p .0 m w) (λ w. h x m (List·Memᴰ·head refl) w) (List·Memᴰ·append-cases xs z), sorted-append xs ys (p .1) q (λ a b i j. h a b (List·Memᴰ·tail i) j))
+sorted-append (x ∷ xs) ys p q h = (
+  λ m z. ⊎-elim (λ w. p .0 m w) (λ w. h x m (List·Memᴰ·head refl) w) (List·Memᴰ·append-cases xs z),
+  sorted-append xs ys (p .1) q
+      (λ a b i j. h a b (List·Memᴰ·tail i) j),
+)
 
-sorted-each : (f : ℕ → List Line) (a n : ℕ) → ((k : ℕ) → Sorted (f k)) → ((k l : ℕ) (x y : Line) → k < l → List·Memᴰ x (f k) → List·Memᴰ y (f l) → Before x y) → Sorted (each f a n)
+sorted-each : (f : ℕ → List Line) (a n : ℕ) → ((k : ℕ) → Sorted (f k)) → ((k l : ℕ) (x y : Line) → k < l → List·Memᴰ x (f k) → List·Memᴰ y (f l) → Before x y)
+    → Sorted (each f a n)
 sorted-each f a zero p h = tt
 sorted-each f a (suc n) p h = sorted-append (f a) (each f (suc a) n) (p a) (sorted-each f (suc a) n p h)
     (λ x y i j. let z = each-out f y (suc a) n j in h a (z .0) x y (z .1) i (z .3))
@@ -76,7 +81,9 @@ module _ (cand : ℕ → ℕ → ℕ → Bool) (line : ℕ → ℕ → ℕ → L
     pub line-is : l ≡ line i j r
 
   of-out : (i j : ℕ) (l : Line) → List·Memᴰ l (linesOf i j) → (r : ℕ) × (r < m) × T (cand i j r) × (l ≡ line i j r)
-  of-out i j l x = let z = each-out (λ (r : ℕ). keep (cand i j r) (line i j r)) l 0 m x in let y = keep-out (cand i j (z .0)) l (line i j (z .0)) (z .3) in let h = z .2 in (z .0, omega arith, y .0, y .1)
+  of-out i j l x =
+      let z = each-out (λ (r : ℕ). keep (cand i j r) (line i j r)) l 0 m x in let y = keep-out (cand i j (z .0)) l (line i j (z .0)) (z .3) in let h = z .2 in
+      (z .0, omega arith, y .0, y .1)
 
   pub lines-out : (l : Line) → List·Memᴰ l lines → (i j r : ℕ) × Listed i j r l
   lines-out l x =

@@ -13,9 +13,11 @@ use Rattle.stretches.specs.Candidates.{Stretch, candidate, ruleOf, taken
 use Rattle.stretches.specs.Account.{each}
 use Rattle.stretches.specs.Paper.{Context, start, end, Earliest, CLML}
 use Rattle.stretches.specs.Sentences.{Candidate, Start, Chosen, Taken, first, next}
-use Rattle.stretches.proofs.Lists.{each-in, each-out, keep-yes, keep-not, First as FirstOf, first-is}
-use Rattle.stretches.proofs.Smallest.{Farthest, Takes, first as takes-first, next as takes-next}
-use Rattle.stretches.proofs.Walks.{rc-candidate, rc-in, Some, over, tape-over, symbolAt, reads, Walked, walked-over, takes-walked, lml-walked, Place, inside, begins, alone, place}
+use Rattle.stretches.proofs.Lists.{each-in, each-out, keep-yes, keep-not}
+use Rattle.stretches.proofs.First.{FirstPassing, first-is}
+use Rattle.stretches.proofs.Smallest.{Farthest, TakenAmong, first as first-among, next as next-among}
+use Rattle.stretches.proofs.Walks.{rc-candidate, rc-in, Some, over, tape-over, symbolAt, reads, Walked, walked-over, among-walked, lml-walked}
+use Rattle.stretches.proofs.Walks.{Place, inside, begins, alone, place}
 
 abbrev pub stretch : ℕ → ℕ → Stretch
 stretch i j = record { start = i; end = j; taken = true }
@@ -26,10 +28,12 @@ module _ (b : Rules) (t : List ℕ) where
   tk i = takenAt i (symbolAt b t i) (over b t i)
 
   pub tk-inside : (i s e : ℕ) → s < i → over b t i ≡ stretch s e → tk i ≡ []
-  tk-inside i s e h o = ap (takenAt i (symbolAt b t i)) o ∙ keep-not (eqb s i && true) (stretch s e) (λ x. let z = eqb→eq s i (and-left (eqb s i) true x) in omega arith)
+  tk-inside i s e h o =
+      ap (takenAt i (symbolAt b t i)) o ∙ keep-not (eqb s i && true) (stretch s e) (λ x. let z = eqb→eq s i (and-left (eqb s i) true x) in omega arith)
 
   pub tk-alone : (i : ℕ) → over b t i ≡ record { start = i; end = i; taken = false } → tk i ≡ []
-  tk-alone i o = ap (takenAt i (symbolAt b t i)) o ∙ keep-not (eqb i i && false) (record { start = i; end = i; taken = false }) (λ x. and-right (eqb i i) false x)
+  tk-alone i o =
+      ap (takenAt i (symbolAt b t i)) o ∙ keep-not (eqb i i && false) (record { start = i; end = i; taken = false }) (λ x. and-right (eqb i i) false x)
 
   pub tk-begins : (i e : ℕ) → over b t i ≡ stretch i e → tk i ≡ stretch i e ∷ []
   tk-begins i e o = ap (takenAt i (symbolAt b t i)) o ∙ keep-yes (eqb i i && true) (stretch i e) (and-both (eqb i i) true (eqb-refl i) tt)
@@ -74,21 +78,32 @@ module _ (b : Rules) (t : List ℕ) where
     λ z. taken-in i j (subst₂ (Walked b t) (z .2) (z .3) (lml-walked b t (z .0) .0 (z .1) .1)),
   )
 
-  pub rule-first : (i j : ℕ) → Some b t i j → FirstOf (candidate b t i j) 0 (length (b .words)) (ruleOf b t i j)
-  rule-first i j s = let c = s .cand in first-is (candidate b t i j) 0 (length (b .words)) 0 (s .rule) (omega arith) (let k = c .known in omega arith) (c .holds)
+  pub rule-first : (i j : ℕ) → Some b t i j → FirstPassing (candidate b t i j) 0 (length (b .words)) (ruleOf b t i j)
+  rule-first i j s =
+      let c = s .cand in first-is (candidate b t i j) 0 (length (b .words)) 0 (s .rule) (omega arith) (let k = c .known in omega arith) (c .holds)
 
   pub rule-paper : (c : Context) → CLML b t c → Earliest b t c (ruleOf b t (start c) (end c))
   rule-paper c x =
       let z = lml-walked b t c .0 x in
       let f = rule-first (start c) (end c) (z .1 .some) in
-      record { known = let h = f .high in omega arith; context = rc-in b t c (ruleOf b t (start c) (end c)) (z .0 .context .whole) (f .passes); least = λ q h y. f .least q (omega arith) (rc-candidate b t c q y) }
+      record {
+        known = let h = f .high in omega arith;
+        context = rc-in b t c (ruleOf b t (start c) (end c)) (z .0 .context .whole) (f .passes);
+        least = λ q h y. f .least q (omega arith) (rc-candidate b t c q y);
+      }
 
   -- 2. document 01's sentence
   of-rule : (i j : ℕ) → Some b t i j → Candidate b t i j (ruleOf b t i j)
-  of-rule i j s = let f = rule-first i j s in let c = s .cand in record { ordered = c .ordered; inside = c .inside; known = let h = f .high in omega arith; holds = f .passes }
+  of-rule i j s =
+      let f = rule-first i j s in let c = s .cand in
+      record { ordered = c .ordered; inside = c .inside; known = let h = f .high in omega arith; holds = f .passes }
 
   chosen : (i j : ℕ) → Farthest (Some b t) i j → Chosen b t i j (ruleOf b t i j)
-  chosen i j f = record { candidate = of-rule i j (f .cand); longest = λ k q c. f .longest k (record { rule = q; cand = c }); lowest = λ q c. rule-first i j (f .cand) .least q (omega arith) (c .holds) }
+  chosen i j f = record {
+    candidate = of-rule i j (f .cand);
+    longest = λ k q c. f .longest k (record { rule = q; cand = c });
+    lowest = λ q c. rule-first i j (f .cand) .least q (omega arith) (c .holds);
+  }
 
   farthest : (i j r : ℕ) → Chosen b t i j r → Farthest (Some b t) i j
   farthest i j r c = record { cand = record { rule = r; cand = c .candidate }; longest = λ k x. c .longest k (x .rule) (x .cand) }
@@ -103,20 +118,33 @@ module _ (b : Rules) (t : List ℕ) where
   begun : {i j : ℕ} → Some b t i j → Start b t i
   begun {j = j} s = record { to = j; rule = s .rule; candidate = s .cand }
 
-  sentence-takes : {i j r : ℕ} → Taken b t i j r → Takes (Some b t) i j × (r ≡ ruleOf b t i j)
-  sentence-takes {i} {j} {r} (first m c) = (takes-first (record { allowed = tt; least = λ k l p x. m .least k (begun x) }) (farthest i j r c), chosen-rule i j r c)
-  sentence-takes (next {k = k} {l = l} {q = q} y m c) =
-      (takes-next (sentence-takes y .0) (record { allowed = (m .after, m .other); least = λ x e p s. let u = p .0 in let v = p .1 in m .least x (omega arith) (omega arith) (begun s) }) (farthest k l q c), chosen-rule k l q c)
+  sentence-among : {i j r : ℕ} → Taken b t i j r → TakenAmong (Some b t) i j × (r ≡ ruleOf b t i j)
+  sentence-among {i} {j} {r} (first m c) =
+      (first-among (record { allowed = tt; least = λ k l p x. m .least k (begun x) }) (farthest i j r c), chosen-rule i j r c)
+  sentence-among (next {k = k} {l = l} {q = q} y m c) = (
+    next-among (sentence-among y .0) (record {
+      allowed = (m .after, m .other);
+      least = λ x e p s. let u = p .0 in let v = p .1 in
+          m .least x (omega arith) (omega arith) (begun s);
+    }) (farthest k l q c),
+    chosen-rule k l q c,
+  )
 
-  takes-sentence : {i j : ℕ} → Takes (Some b t) i j → Taken b t i j (ruleOf b t i j)
-  takes-sentence {i} {j} (takes-first m f) = first (record { start = begun (f .cand); least = λ k s. m .least k (s .to) tt (record { rule = s .rule; cand = s .candidate }) }) (chosen i j f)
-  takes-sentence (takes-next {k = k} {l = l} y m f) = next (takes-sentence y)
-      (record { after = m .allowed .0; other = m .allowed .1; start = begun (f .cand); least = λ x h g s. m .least x (s .to) (omega arith, omega arith) (record { rule = s .rule; cand = s .candidate }) }) (chosen k l f)
+  among-sentence : {i j : ℕ} → TakenAmong (Some b t) i j → Taken b t i j (ruleOf b t i j)
+  among-sentence {i} {j} (first-among m f) =
+      first (record { start = begun (f .cand); least = λ k s. m .least k (s .to) tt (record { rule = s .rule; cand = s .candidate }) }) (chosen i j f)
+  among-sentence (next-among {k = k} {l = l} y m f) = next (among-sentence y)
+      (record {
+        after = m .allowed .0;
+        other = m .allowed .1;
+        start = begun (f .cand);
+        least = λ x h g s. m .least x (s .to) (omega arith, omega arith) (record { rule = s .rule; cand = s .candidate });
+      }) (chosen k l f)
 
   pub sentence-taken : (i j r : ℕ) → Taken b t i j r ↔ (List·Memᴰ (stretch i j) (taken b t) × (r ≡ ruleOf b t i j))
   sentence-taken i j r = (
-    λ x. let z = sentence-takes x in (taken-in i j (takes-walked b t i j .0 (z .0)), z .1),
-    λ z. subst (Taken b t i j) (sym (z .1)) (takes-sentence (takes-walked b t i j .1 (taken-out i j (z .0)))),
+    λ x. let z = sentence-among x in (taken-in i j (among-walked b t i j .0 (z .0)), z .1),
+    λ z. subst (Taken b t i j) (sym (z .1)) (among-sentence (among-walked b t i j .1 (taken-out i j (z .0)))),
   )
 
   pub sentence-paper : (i j r : ℕ) → Taken b t i j r ↔ ((c : Context) × CLML b t c × Earliest b t c r × (start c ≡ i) × (end c ≡ j))

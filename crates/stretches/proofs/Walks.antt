@@ -16,10 +16,10 @@ use Rattle.stretches.specs.Account.{each}
 use Rattle.stretches.specs.Paper.{Context, start, end, RC, C, CLML}
 use Rattle.stretches.specs.Sentences.{Candidate}
 use borrow.Author.Tests.{lt-ltb, le-ltb}
-use Rattle.stretches.proofs.Lists.{last-low, last-high, last-passes, last-reach}
+use Rattle.stretches.proofs.Last.{last-low, last-high, last-passes, last-reach}
 use Rattle.stretches.proofs.Words.{take-first, drop-third, slice-second, parts, end-within, end-at}
-use Rattle.stretches.proofs.Greedy.{Walk, Reads, At, lml}
-use Rattle.stretches.proofs.Smallest.{Takes, takes-out, takes-in}
+use Rattle.stretches.proofs.Greedy.{GreedyWalk, Reads, At, lml}
+use Rattle.stretches.proofs.Smallest.{TakenAmong, among-out, among-in}
 
 pub record Some (b : Rules) (t : List ℕ) (i j : ℕ) : Type 0 where
   pub rule : ℕ
@@ -83,7 +83,8 @@ module _ (b : Rules) (t : List ℕ) where
   unfolding over
   along-over f zero i c e h =
       let g : length t ≤ i = omega arith in
-      ap (along f b t i c) (drop-of-length-le t {i = i} g) ∙ ap (f i []) e ∙ ap (λ (x : List ℕ). f i x (over i)) (sym (symbol-end i g)) ∙ sym (append-nil (f i (symbolAt i) (over i)))
+      ap (along f b t i c) (drop-of-length-le t {i = i} g) ∙ ap (f i []) e ∙ ap (λ (x : List ℕ). f i x (over i)) (sym (symbol-end i g))
+      ∙ sym (append-nil (f i (symbolAt i) (over i)))
   along-over f (suc m) i c e h =
       let g : i < length t = omega arith in
       ap (along f b t i c) (drop-cons t i 0 g)
@@ -147,7 +148,7 @@ module _ (b : Rules) (t : List ℕ) where
   over-mid s i f h k = le-ind (λ (i : ℕ). i < longest b t s → over i ≡ over s) (λ g. refl)
       (λ m g p q. let e = p (omega arith) in let z = ap (λ (d : Stretch). d .end) (e ∙ over-far s f) in over-in m (omega arith) ∙ e) i h k
 
-  pub walk : Walk (Some b t)
+  pub walk : GreedyWalk (Some b t)
   walk = record {
     Free = λ (i : ℕ). over i .start ≡ i;
     far = longest b t;
@@ -200,13 +201,33 @@ module _ (b : Rules) (t : List ℕ) where
   unfolding candidate
   candidate-rc i j r h k =
       let F = b .focus r (slice i j t) in let L = b .left r (take i t) in let G = b .right r (drop j t) in
-      record { left = and-right F L (and-left (F && L) G k); focus = and-left F L (and-left (F && L) G k); right = and-right (F && L) G k; whole = parts t i j h }
+      record {
+        left = and-right F L (and-left (F && L) G k);
+        focus = and-left F L (and-left (F && L) G k);
+        right = and-right (F && L) G k;
+        whole = parts t i j h;
+      }
 
   pub reads : Reads b t (Some b t)
   reads = record {
-    to = λ c x. let y = x .context in record { rule = x .rule; cand = record { ordered = let e = length-append (c .u) (c .v) in omega arith; inside = end-within (c .u) (c .v) (c .w) t (y .whole); known = x .known; holds = rc-candidate c (x .rule) y } };
-    from = λ i j k. let c = k .cand in let h = c .ordered in let l = c .inside in
-        (context i j, record { rule = k .rule; known = c .known; context = candidate-rc i j (k .rule) h (c .holds) }, length-take-le i t (omega arith), end-at t i j h l);
+    to =
+        λ c x. let y = x .context in
+        record {
+          rule = x .rule;
+          cand = record {
+            ordered = let e = length-append (c .u) (c .v) in
+                omega arith;
+            inside = end-within (c .u) (c .v) (c .w) t (y .whole);
+            known = x .known;
+            holds = rc-candidate c (x .rule) y;
+          };
+        };
+    from = λ i j k. let c = k .cand in let h = c .ordered in let l = c .inside in (
+      context i j,
+      record { rule = k .rule; known = c .known; context = candidate-rc i j (k .rule) h (c .holds) },
+      length-take-le i t (omega arith),
+      end-at t i j h l,
+    );
   }
 
   -- 3. the walk takes the stretch from i to j
@@ -233,9 +254,13 @@ module _ (b : Rules) (t : List ℕ) where
   unfolding walk
   at-walked a = record { free = a .free; far = refl; some = a .cand }
 
-  pub takes-walked : (i j : ℕ) → Takes (Some b t) i j ↔ Walked i j
+  pub among-walked : (i j : ℕ) → TakenAmong (Some b t) i j ↔ Walked i j
   unfolding walk
-  takes-walked i j = (λ x. let z = takes-out walk x in subst (Walked i) (sym (z .1)) (at-walked (z .0)), λ w. subst (Takes (Some b t) i) (sym (w .far)) (takes-in walk i (walked-at w)))
+  among-walked i j = (
+    λ x. let z = among-out walk x in
+        subst (Walked i) (sym (z .1)) (at-walked (z .0)),
+    λ w. subst (TakenAmong (Some b t) i) (sym (w .far)) (among-in walk i (walked-at w)),
+  )
 
   pub lml-walked : (c : Context) → CLML b t c ↔ (C b t c × Walked (start c) (end c))
   unfolding walk
@@ -265,7 +290,11 @@ module _ (b : Rules) (t : List ℕ) where
 
       here : over i .start ≡ i → (c : Bool) → someRule b t i (longest b t i) ≡ c → Place i
       here f true e =
-          let w : Walked i (longest b t i) = record { free = f; far = refl; some = some-test i (longest b t i) (longest-low i) (longest-high i n) (subst T (sym e) tt) } in
+          let w : Walked i (longest b t i) = record {
+            free = f;
+            far = refl;
+            some = some-test i (longest b t i) (longest-low i) (longest-high i n) (subst T (sym e) tt);
+          } in
           begins (longest b t i) w (walked-over w)
       here f false e =
           let q : longest b t i ≡ i = ⊎-elim (λ z. z) (λ x. absurd (subst T e x)) (longest-passes i) in

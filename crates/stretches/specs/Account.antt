@@ -9,11 +9,18 @@ use Rattle.book.specs.Language.{Rules}
 use Rattle.stretches.specs.Candidates.{Stretch, candidate, ruleOf, overTape, keep}
 
 pub record Line : Type 0 where
+  -- the candidate: its rule's number, and the stretch from start up to and not including end
   pub rule : ℕ
   pub start : ℕ
   pub end : ℕ
+  -- 0 to 3, as `verdictBy` says
   pub verdict : ℕ
+  -- where the taken stretch starts that decides, at most `start`
   pub deciding : ℕ
+
+-- the line of the candidate from i to j of the rule r, where the stretch that starts at `start` decides by its rule `rule`
+abbrev pub judge : (i j r verdict start rule : ℕ) → Line
+judge i j r verdict start rule = record { rule = r; start = i; end = j; verdict = verdict; deciding = start }
 
 -- "Verdicts: 0 taken; 1 shorter than the taken one at the same start; 2 same stretch, lower rule taken; 3 start strictly inside a taken
 -- stretch", of the candidate from i to j of the rule r, where the stretch from start to end with its rule decides
@@ -26,7 +33,7 @@ verdictOf b t i j r d = verdictBy i j r (d .start) (d .end) (ruleOf b t (d .star
 
 -- "The deciding start is that of the taken stretch, its own for 0"
 abbrev pub lineFor : Rules → List ℕ → ℕ → ℕ → ℕ → Stretch → Line
-lineFor b t i j r d = record { rule = r; start = i; end = j; verdict = verdictOf b t i j r d; deciding = d .start }
+lineFor b t i j r d = judge i j r (verdictOf b t i j r d) (d .start) (ruleOf b t (d .start) (d .end))
 
 -- what f says of each number from a on, n of them
 abbrev pub each {ℓ} : {A : Type ℓ} → (ℕ → List A) → ℕ → ℕ → List A
@@ -45,9 +52,24 @@ account b t = overTape (linesAt b t) b t
 abbrev pub lineWords : Line → List ℕ
 lineWords l = l .rule ∷ l .start ∷ l .end ∷ l .verdict ∷ l .deciding ∷ []
 
--- how many they are
+-- how many they are, and where each stands
 abbrev pub lineLength : ℕ
 lineLength = 5
+
+abbrev pub lineRule : ℕ
+lineRule = 0
+
+abbrev pub lineStart : ℕ
+lineStart = 1
+
+abbrev pub lineEnd : ℕ
+lineEnd = 2
+
+abbrev pub lineVerdict : ℕ
+lineVerdict = 3
+
+abbrev pub lineDeciding : ℕ
+lineDeciding = 4
 
 pub line-length : (l : Line) → length (lineWords l) ≡ lineLength
 line-length l = refl

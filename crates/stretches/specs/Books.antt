@@ -85,5 +85,6 @@ abbrev accepts : ℕ → ℕ → ℕ → Checked
 accepts rules states arcs = record { reply = 0; place = 0; rules = rules; states = states; arcs = arcs }
 
 pub books-accepted : map checkDef (bookP ∷ bookQ ∷ bookS ∷ []) ≡ accepts 2 16 13 ∷ accepts 1 6 4 ∷ accepts 1 8 6 ∷ []
-unfolding bookP bookQ bookS recordSize symbolFits symbolsFit ruleReply stateReply given arcReply endReply kindReply recordReply withRecord readFrom readBook checkDef
+unfolding bookP bookQ bookS recordSize symbolFits symbolsFit ruleReply stateReply given arcReply endReply kindReply recordReply withRecord
+    readFrom readBook checkDef
 books-accepted = refl

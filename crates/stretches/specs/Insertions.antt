@@ -26,11 +26,13 @@ bookI =
     }
 
 -- "the word is written and the symbol at that position is kept"; "Every origin of an inserted word is its position, n at the tape's end"
-pub inserted : (symbolsOf (rewriting (rules bookI) (8 ∷ 1 ∷ 8 ∷ [])) ≡ 8 ∷ 11 ∷ 12 ∷ 1 ∷ 8 ∷ 11 ∷ 12 ∷ []) × (originsOf (rewriting (rules bookI) (8 ∷ 1 ∷ 8 ∷ [])) ≡ 0 ∷ 1 ∷ 1 ∷ 1 ∷ 2 ∷ 3 ∷ 3 ∷ [])
+pub inserted : (symbolsOf (rewriting (rules bookI) (8 ∷ 1 ∷ 8 ∷ [])) ≡ 8 ∷ 11 ∷ 12 ∷ 1 ∷ 8 ∷ 11 ∷ 12 ∷ []) × (originsOf
+    (rewriting (rules bookI) (8 ∷ 1 ∷ 8 ∷ [])) ≡ 0 ∷ 1 ∷ 1 ∷ 1 ∷ 2 ∷ 3 ∷ 3 ∷ [])
 unfolding bookI leads flagged isStart isAccept accepts candidate longest rewriting
 inserted = (refl, refl)
 
 -- "At a taken start the longest still wins": the account has the empty candidate and the longer one
-pub longer-wins : (symbolsOf (rewriting (rules bookI) (8 ∷ 5 ∷ [])) ≡ 8 ∷ 7 ∷ []) × (map lineWords (account (rules bookI) (8 ∷ 5 ∷ [])) ≡ (0 ∷ 1 ∷ 1 ∷ 1 ∷ 1 ∷ []) ∷ (1 ∷ 1 ∷ 2 ∷ 0 ∷ 1 ∷ []) ∷ [])
+pub longer-wins : (symbolsOf (rewriting (rules bookI) (8 ∷ 5 ∷ [])) ≡ 8 ∷ 7 ∷ []) × (map lineWords
+    (account (rules bookI) (8 ∷ 5 ∷ [])) ≡ (0 ∷ 1 ∷ 1 ∷ 1 ∷ 1 ∷ []) ∷ (1 ∷ 1 ∷ 2 ∷ 0 ∷ 1 ∷ []) ∷ [])
 unfolding bookI leads flagged isStart isAccept accepts candidate longest rewriting account
 longer-wins = (refl, refl)

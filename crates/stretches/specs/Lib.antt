@@ -1,12 +1,16 @@
+-- Believed: what a candidate is, what is taken, what is written and listed. The contracts above rest on these.
 pub mod Candidates
 pub mod Output
 pub mod Account
+pub mod Buffers
+-- Believed too, and compared with those by theorems: source document 001 line by line, and the sentences of document 01.
 pub mod Paper
 pub mod Sentences
-pub mod Books
-pub mod Table
-pub mod Insertions
-pub mod Buffers
+-- For the contracts of inner functions, and for the crates above: each is proved of what the believed files say.
 pub mod Lists
 pub mod Ready
 pub mod Position
+-- Examples: the books and tapes worked by hand, and two tapes with words put in.
+pub mod Books
+pub mod Table
+pub mod Insertions

@@ -9,6 +9,7 @@ use mathlib.Core.Path.{_≡_}
 use mathlib.Core.Logic.{_⊎_, _≢_}
 use lib.Dec.{T}
 use lib.ListN.{length, getD}
+use Rattle.book.specs.Format.{leftPart, focusPart, rightPart}
 use Rattle.book.specs.Reading.{Book}
 use Rattle.book.specs.Language.{accepts, Rules}
 use Rattle.stretches.specs.Output.{Mark, keptMarks, wordMarks, ruleWord}
@@ -40,9 +41,9 @@ pub record RC (b : Rules) (t : List ℕ) (r : ℕ) (c : Context) : Type 0 where
 
 -- 3.2 for a rule of a book, its three languages written out: u ∈ Σ*λ is u = xy with y ∈ λ, w ∈ ρΣ* is w = xy with x ∈ ρ
 pub record BookRC (b : Book) (t : List ℕ) (r : ℕ) (c : Context) : Type 0 where
-  pub left : (x y : List ℕ) × (c .u ≡ x ++ y) × T (accepts b r 0 y)
-  pub focus : T (accepts b r 1 (c .v))
-  pub right : (x y : List ℕ) × (c .w ≡ x ++ y) × T (accepts b r 2 x)
+  pub left : (x y : List ℕ) × (c .u ≡ x ++ y) × T (accepts b r leftPart y)
+  pub focus : T (accepts b r focusPart (c .v))
+  pub right : (x y : List ℕ) × (c .w ≡ x ++ y) × T (accepts b r rightPart x)
   pub whole : t ≡ c .u ++ (c .v ++ c .w)
 
 -- 3.4: C(t, BR) = ⋃ ctx(t, T_r/λ_r_ρ_r), the contexts of all rules

@@ -6,7 +6,7 @@ use mathlib.Core.List.{List, [], _∷_}
 use mathlib.Core.Bool.{Bool, cond, _&&_}
 use lib.Dec.{ltb}
 use lib.ListN.{getD}
-use Rattle.book.specs.Format.{mostRules}
+use Rattle.book.specs.Format.{mostRules, focusPart, rightPart}
 use Rattle.book.specs.Reading.{Book}
 use Rattle.book.specs.Language.{Rules, rules}
 use Rattle.sets.specs.Focus.{meetsAccept, meetsStart}
@@ -15,7 +15,7 @@ use Rattle.stretches.specs.Output.{Mark, writtenAt}
 
 -- a rule passes at an end: X, the focus states there, holds a focus accept of it, and R, the right set there, a right start
 unfoldable pub hits : Book → ℕ → ℕ → ℕ → Bool
-hits b X R r = meetsAccept b r 1 X && meetsStart b r 2 R
+hits b X R r = meetsAccept b r focusPart X && meetsStart b r rightPart R
 
 -- the number that is no rule's
 abbrev pub noRule : ℕ

@@ -11,7 +11,7 @@ use lib.Seq.{slice}
 use Rattle.book.specs.Language.{Rules, any, upFrom}
 use Rattle.stretches.specs.Candidates.{Stretch, candidate, ruleOf, taken}
 use Rattle.stretches.specs.Output.{Mark, keptMarks, wordMarks, ruleWord, written}
-use Rattle.stretches.specs.Account.{Line, each}
+use Rattle.stretches.specs.Account.{Line, judge, each}
 
 -- 1. taken starts
 
@@ -77,7 +77,7 @@ pub record SameCandidate (l m : Line) : Type 0 where
 
 -- line k, counted from 0
 abbrev pub lineNumber : List Line → ℕ → Line
-lineNumber ls k = getD ls k (record { rule = 0; start = 0; end = 0; verdict = 0; deciding = 0 })
+lineNumber ls k = getD ls k (judge 0 0 0 0 0 0)
 
 -- the sum of f over the numbers from a on, n of them
 abbrev pub sum : (ℕ → ℕ) → ℕ → ℕ → ℕ
@@ -86,7 +86,10 @@ sum f a (suc n) = f a + sum f (suc a) n
 
 -- how many candidates there are: 1 or 0 for each start, each end from it to n, and each rule
 abbrev pub candidateCount : Rules → List ℕ → ℕ
-candidateCount b t = sum (λ (i : ℕ). sum (λ (j : ℕ). sum (λ (r : ℕ). cond (candidate b t i j r) 1 0) 0 (length (b .words))) i (suc (length t) - i)) 0 (suc (length t))
+candidateCount b t =
+    sum (λ (i : ℕ). sum (λ (j : ℕ). sum (λ (r : ℕ). cond (candidate b t i j r) 1 0) 0 (length (b .words))) i (suc (length t) - i))
+    0
+    (suc (length t))
 
 -- "Verdicts: 0 taken; 1 shorter than the taken one at the same start; 2 same stretch, lower rule taken; 3 start strictly inside a taken stretch.
 -- The deciding start is that of the taken stretch, its own for 0": exactly one of the four, and what each says
@@ -106,7 +109,7 @@ takenLines (l ∷ ls) = cond (eqb (l .verdict) 0) (l ∷ takenLines ls) (takenLi
 
 -- the line of a taken stretch
 abbrev pub lineOf : Rules → List ℕ → Stretch → Line
-lineOf b t d = record { rule = ruleOf b t (d .start) (d .end); start = d .start; end = d .end; verdict = 0; deciding = d .start }
+lineOf b t d = let r = ruleOf b t (d .start) (d .end) in judge (d .start) (d .end) r 0 (d .start) r
 
 -- the lines follow one another from position a on: each starts at or after the end of the one before
 abbrev pub Chain : List ℕ → ℕ → List Line → Type 0

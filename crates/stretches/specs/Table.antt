@@ -47,17 +47,20 @@ rows =
 
 -- each tape is rewritten to its row
 pub table : map rewritten rows ≡ rows
-unfolding rows tape8 house bookP bookQ bookS recordSize symbolFits symbolsFit ruleReply stateReply given arcReply endReply kindReply recordReply withRecord readFrom readBook bookOf leads flagged isStart isAccept accepts candidate longest rewriting
+unfolding rows tape8 house bookP bookQ bookS recordSize symbolFits symbolsFit ruleReply stateReply given arcReply endReply kindReply recordReply
+    withRecord readFrom readBook bookOf leads flagged isStart isAccept accepts candidate longest rewriting
 table = refl
 
 -- case 1, the C lines that document 01 prints: "C 0 1 3 0 1", "C 2 1 3 2 1"
 pub account1 : map lineWords (account (rulesIn house) (1 ∷ 2 ∷ 4 ∷ 0 ∷ 0 ∷ [])) ≡ (0 ∷ 1 ∷ 3 ∷ 0 ∷ 1 ∷ []) ∷ (2 ∷ 1 ∷ 3 ∷ 2 ∷ 1 ∷ []) ∷ []
-unfolding house recordSize symbolFits symbolsFit ruleReply stateReply given arcReply endReply kindReply recordReply withRecord readFrom readBook bookOf leads flagged isStart isAccept accepts candidate longest account
+unfolding house recordSize symbolFits symbolsFit ruleReply stateReply given arcReply endReply kindReply recordReply withRecord readFrom readBook
+    bookOf leads flagged isStart isAccept accepts candidate longest account
 account1 = refl
 
 -- "1 to 6 and 8 to 10 are taken"
 pub taken8 : taken (rulesIn bookP) tape8 ≡ record { start = 1; end = 6; taken = true } ∷ record { start = 8; end = 10; taken = true } ∷ []
-unfolding tape8 bookP recordSize symbolFits symbolsFit ruleReply stateReply given arcReply endReply kindReply recordReply withRecord readFrom readBook bookOf leads flagged isStart isAccept accepts candidate longest taken
+unfolding tape8 bookP recordSize symbolFits symbolsFit ruleReply stateReply given arcReply endReply kindReply recordReply withRecord readFrom
+    readBook bookOf leads flagged isStart isAccept accepts candidate longest taken
 taken8 = refl
 
 -- "Its account for case 8 has nine lines; 1 to 6 and 8 to 10 are taken, 1 to 3 and 1 to 4 are shorter, the other five have deciding start 1"
@@ -72,5 +75,6 @@ pub account8 : map lineWords (account (rulesIn bookP) tape8) ≡
     (1 ∷ 5 ∷ 7 ∷ 3 ∷ 1 ∷ []) ∷
     (0 ∷ 8 ∷ 10 ∷ 0 ∷ 8 ∷ []) ∷
     []
-unfolding tape8 bookP recordSize symbolFits symbolsFit ruleReply stateReply given arcReply endReply kindReply recordReply withRecord readFrom readBook bookOf leads flagged isStart isAccept accepts candidate longest account
+unfolding tape8 bookP recordSize symbolFits symbolsFit ruleReply stateReply given arcReply endReply kindReply recordReply withRecord readFrom
+    readBook bookOf leads flagged isStart isAccept accepts candidate longest account
 account8 = refl

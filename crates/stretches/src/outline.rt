@@ -7,27 +7,31 @@ ghost use Rattle.book.specs.Reading.{checkDef, bookOf};
 ghost use Rattle.book.specs.Outline.{allMask};
 ghost use Rattle.stretches.specs.Ready.{maskCount, KindPut, Outlined};
 
-// The masks of the rules stand one kind after the other, sixteen a kind; then those of all rules.
+// The masks of the rules stand one kind after the other, one a rule; then the focus starts and the focus accepts of all rules.
 pub const LEFT_ACCEPTS: usize = 0;
 
-pub const FOCUS_STARTS: usize = 16;
+pub const FOCUS_STARTS: usize = book::RULES;
 
-pub const FOCUS_ACCEPTS: usize = 32;
+pub const FOCUS_ACCEPTS: usize = 2 * book::RULES;
 
-pub const RIGHT_STARTS: usize = 48;
+pub const RIGHT_STARTS: usize = 3 * book::RULES;
 
-pub const ALL_STARTS: usize = 64;
+pub const ALL_STARTS: usize = 4 * book::RULES;
 
-pub const ALL_ACCEPTS: usize = 65;
+pub const ALL_ACCEPTS: usize = ALL_STARTS + 1;
 
-pub const MASKS: usize = 66;
+pub const MASKS: usize = ALL_STARTS + 2;
 
+// Lent to every pass over a tape, so that no pass reads the book's records one by one.
 pub struct Outline {
+    // The offset of each state's record in the book, by the state's number, 0 past the last state: the step of the focus reads the arcs from
+    // there on.
     pub places: [u16; book::STATES],
+    // Sets of states, bit s for state s, at the offsets above; 0 past the last rule of a kind. The walk tests its sets with them.
     pub masks: [u64; MASKS],
 }
 
-// Puts the masks of one part and flag, sixteen from `at` on, and hands back that of all rules.
+// Puts the masks of one part and flag, one a rule from `at` on, and hands back that of all rules.
 fn put_masks(book: &[u8], part: u8, flag: u8, masks: &mut [u64; MASKS], at: usize) -> u64
     requires { ⌜ checkDef (now book) .reply ≡ 0 ⌝ }
     requires { ⌜ (at + mostRules ≤ maskCount) × (length (now masks) ≡ maskCount) ⌝ }
@@ -49,10 +53,10 @@ pub fn outline_of(book: &[u8]) -> Outline
     ensures { λ r. ⌜ Outlined (bookOf (now (book .entry))) (length (bookOf (now (book .entry)) .words)) (r .places) (r .masks) ⌝ }
 {
     let mut masks = [0u64; MASKS];
-    put_masks(book, 0, 2, &mut masks, LEFT_ACCEPTS);
-    let starts = put_masks(book, 1, 1, &mut masks, FOCUS_STARTS);
-    let accepts = put_masks(book, 1, 2, &mut masks, FOCUS_ACCEPTS);
-    put_masks(book, 2, 1, &mut masks, RIGHT_STARTS);
+    put_masks(book, book::LEFT, book::ACCEPT, &mut masks, LEFT_ACCEPTS);
+    let starts = put_masks(book, book::FOCUS, book::START, &mut masks, FOCUS_STARTS);
+    let accepts = put_masks(book, book::FOCUS, book::ACCEPT, &mut masks, FOCUS_ACCEPTS);
+    put_masks(book, book::RIGHT, book::START, &mut masks, RIGHT_STARTS);
     masks[ALL_STARTS] = starts;
     masks[ALL_ACCEPTS] = accepts;
     let at = book::outline::place_states(book);

@@ -24,8 +24,8 @@ ghost use Rattle.stretches.specs.Position.{hits, hitRule, TakenHere};
 // The number that is no rule's.
 pub const NO_RULE: usize = book::RULES;
 
-// The focus starts of a rule, where its left context holds.
-fn opened(book: &[u8], masks: &[u64; MASKS], rules: usize, left: u64, rule: usize) -> u64
+// The states that a rule starts with: its focus starts where its left context holds, none where it does not.
+fn rule_starts(book: &[u8], masks: &[u64; MASKS], rules: usize, left: u64, rule: usize) -> u64
     requires { ⌜ Tests (bookOf (now book)) rules (now masks) ⌝ }
     requires { ⌜ rule < rules ⌝ }
     ensures { λ r. ⌜ r ≡ openedBy (bookOf (now (book .entry))) left rule ⌝ }
@@ -36,8 +36,8 @@ fn opened(book: &[u8], masks: &[u64; MASKS], rules: usize, left: u64, rule: usiz
     masks[FOCUS_STARTS + rule]
 }
 
-// The focus states that may start between the left set and the right set. At most positions the right set holds no focus start.
-pub fn focus_first(book: &[u8], masks: &[u64; MASKS], rules: usize, left: u64, right: u64) -> u64
+// The set that the walk starts with between the left set and the right set. At most positions the right set holds no focus start.
+pub fn first_set(book: &[u8], masks: &[u64; MASKS], rules: usize, left: u64, right: u64) -> u64
     requires { ⌜ Tests (bookOf (now book)) rules (now masks) ⌝ }
     ensures { λ r. ⌜ r ≡ focusFirst (bookOf (now (book .entry))) left right ⌝ }
 {
@@ -47,7 +47,7 @@ pub fn focus_first(book: &[u8], masks: &[u64; MASKS], rules: usize, left: u64, r
     let mut out: u64 = 0;
     let mut rule = 0;
     while rule < rules {
-        out = out | opened(book, masks, rules, left, rule);
+        out = out | rule_starts(book, masks, rules, left, rule);
         rule += 1;
     }
     out & right
@@ -93,12 +93,15 @@ fn rule_hit(book: &[u8], masks: &[u64; MASKS], rules: usize, set: u64, right: u6
     NO_RULE
 }
 
-// What is taken at a free position: where the longest candidate ends, and its lowest rule; the position itself and 0 where there is none.
+// What is taken at a free position: the longest candidate that starts there, by its lowest rule.
 pub struct Taken {
+    // Where it ends, past the position and at most the tape's length; the position itself where nothing is taken, and so they tell the two.
     pub end: usize,
+    // The number of its rule, 0 where nothing is taken: its word is written, and the account judges the other rules by it.
     pub rule: usize,
 }
 
+// The walk from a free position: after each symbol the focus states that can still end well, until none is left or the tape ends.
 pub fn taken_at(
     book: &[u8],
     places: &[u16; book::STATES],
@@ -119,7 +122,7 @@ pub fn taken_at(
     ensures { λ r. ⌜ TakenHere (rulesIn (now (book .entry))) (now (tape .entry)) from (r .end) (r .rule) ⌝ }
     ensures { λ _. ⌜ Remembers (bookOf (now (book .entry))) (now (steps .exit)) (now (symbols .exit)) ⌝ }
 {
-    let mut set = focus_first(book, masks, rules, left, right_set(sets, scratch, from));
+    let mut set = first_set(book, masks, rules, left, right_set(sets, scratch, from));
     let mut end = from;
     let mut rule = 0;
     let mut j = from;

@@ -9,7 +9,8 @@ outline-of-requires c κs =
 
 count-and-write-requires : tie.Need-count-and-write-requires
 count-and-write-requires c κs =
-    (rw (c .before .before .before .before .before .before .before .before .before .before .before .pre .1) (c .before .before .before .before .outline-of .ensures), c .before .before .before .before .before .before .before .before .before .before .before .pre .0)
+    let s = c .before .before .before .before .before .before .before .before .before .before .before in
+    (rw (s .pre .1) (c .before .before .before .before .outline-of .ensures), s .pre .0)
 
 same-length : tie.Need-same-length
 same-length c = search needs

@@ -28,13 +28,19 @@ mul-start-count c = search needs
 
 shared-slice-read-start-count : tie.Need-shared-slice-read-start-count Inv-loop μ-loop
 shared-slice-read-start-count c =
-    omega (arith, c .before .before .loop .inv .left .below, c .before .before .before .before .before .before .before .before .pre .1 .few, c .before .before .before .before .before .before .before .before .pre .1 .sets-room)
+    let s = c .before .before .before .before .before .before .before .before in
+    omega (arith, c .before .before .loop .inv .left .below, s .pre .1 .few, s .pre .1 .sets-room)
 
 start-count-requires : tie.Need-start-count-requires Inv-loop μ-loop
 start-count-requires c κs =
     let s = c .before .before .before .before .before .before .before .before in
-    let a = s .args in
-    (s .pre .0, (rights-of (a .book .now) (a .tape .now) (a .rows .now) (a .sets .now) (a .scratch .now) (s .pre .1), (omega arith, s .pre .1 .tape-fits, c .before .before .loop .inv .left .is)))
+    let a = s .args in (
+      s .pre .0,
+      (
+        rights-of (a .book .now) (a .tape .now) (a .rows .now) (a .sets .now) (a .scratch .now) (s .pre .1),
+        (omega arith, s .pre .1 .tape-fits, c .before .before .loop .inv .left .is),
+      ),
+    )
 
 add-n : tie.Need-add-n Inv-loop μ-loop
 add-n c =
@@ -42,7 +48,8 @@ add-n c =
     let a = s .args in
     let l = c .before .before .before .loop in
     let h : l .i < length (a .tape .now) = c .before .before .loop-test .taken in
-    let low = total-low (a .book .now) (a .tape .now) (a .rows .now) (a .sets .now) (a .scratch .now) (s .pre .1) (l .n) (l .k) (l .i) (l .inv) (c .start-count .result) h (c .start-count .ensures) in
+    let low = total-low (a .book .now) (a .tape .now) (a .rows .now) (a .sets .now) (a .scratch .now) (s .pre .1) (l .n) (l .k) (l .i) (l .inv)
+    (c .start-count .result) h (c .start-count .ensures) in
     omega (arith, low, account-most (bookOf (a .book .now)) (s .pre .0 .tests .sound) (a .tape .now) (s .pre .1 .tape-fits))
 
 shared-slice-read-left-entry : tie.Need-shared-slice-read-left-entry Inv-loop μ-loop
@@ -50,9 +57,10 @@ shared-slice-read-left-entry c = search needs
 
 left-entry-requires : tie.Need-left-entry-requires Inv-loop μ-loop
 left-entry-requires c κs =
+    let s = c .before .before .before .before .before .before .before .before .before .before in
     let l = c .before .before .before .before .loop in
-    let h : l .i < length (c .before .before .before .before .before .before .before .before .before .before .args .tape .now) = c .before .before .before .loop-test .taken in
-    (omega (arith, l .inv .left .below, c .before .before .before .before .before .before .before .before .before .before .pre .1 .few), c .before .before .before .before .before .before .before .before .before .before .pre .1 .symbols (l .i) h, c .before .before .before .before .before .before .before .before .before .before .pre .1 .rows-room)
+    let h : l .i < length (s .args .tape .now) = c .before .before .before .loop-test .taken in
+    (omega (arith, l .inv .left .below, s .pre .1 .few), s .pre .1 .symbols (l .i) h, s .pre .1 .rows-room)
 
 add-i : tie.Need-add-i Inv-loop μ-loop
 add-i c = search needs
@@ -67,7 +75,8 @@ loop-again c =
     let l = c .before .before .before .before .before .loop in
     let r = c .before .before .start-count in
     let h : l .i < length (a .tape .now) = c .before .before .before .before .loop-test .taken in
-    total-turn (a .book .now) (a .tape .now) (a .rows .now) (a .sets .now) (a .scratch .now) (s .pre .1) (l .n) (l .k) (l .i) (l .inv) (r .result) (c .left-entry .result) h (r .ensures) (c .left-entry .ensures)
+    total-turn (a .book .now) (a .tape .now) (a .rows .now) (a .sets .now) (a .scratch .now) (s .pre .1) (l .n) (l .k) (l .i) (l .inv) (r .result)
+    (c .left-entry .result) h (r .ensures) (c .left-entry .ensures)
 
 returns : tie.Need-returns Inv-loop μ-loop
 returns c =

@@ -25,17 +25,26 @@ returns c =
 write-lines-requires : tie.Need-write-lines-requires
 write-lines-requires c κs =
     let s = c .before .before .before .before .before .before .before .before .before in
-    let a = s .args in
-    (s .pre .0, (s .pre .1, room (rulesIn (a .book .now)) (a .tape .now) (a .lines .now) (c .before .before .count .result) (c .before .before .count .ensures) (omega arith)))
+    let a = s .args in (
+      s .pre .0,
+      (
+        s .pre .1,
+        room (rulesIn (a .book .now)) (a .tape .now) (a .lines .now) (c .before .before .count .result) (c .before .before .count .ensures)
+            (omega arith),
+      ),
+    )
 
 same-length : tie.Need-same-length
 same-length c = search needs
 
 returns-2 : tie.Need-returns-2
 returns-2 c =
-    let a = c .before .before .before .before .before .before .before .before .before .before .before .before .args in
+    let s = c .before .before .before .before .before .before .before .before .before .before .before .before in
+    let a = s .args in
     let w = c .before .before .write-lines in
-    long (rulesIn (a .book .now)) (a .tape .now) (a .lines .now) (c .before .before .before .before .before .count .result) (c .before .before .before .before .before .count .ensures) (omega (arith, c .before .before .before .before .if1 .left)) (w .last .1 .1 .1 .1 .1 .1 .1 .1 .0) (w .ensures)
+    long (rulesIn (a .book .now)) (a .tape .now) (a .lines .now) (c .before .before .before .before .before .count .result)
+    (c .before .before .before .before .before .count .ensures) (omega (arith, c .before .before .before .before .if1 .left))
+    (w .last .1 .1 .1 .1 .1 .1 .1 .1 .0) (w .ensures)
 
 pub count-and-write-spec : {M : Type 1} → statement M
 count-and-write-spec =

@@ -25,7 +25,8 @@ returns : tie.Need-returns Inv-loop μ-loop
 returns c =
     let s = c .before .before .before in
     let a = s .args in
-    hit-none (bookOf (a .book .now)) (a .set) (a .right) (none-hits (bookOf (a .book .now)) (a .rules) (a .masks .now) (s .pre) (a .set) (a .right) (c .if1 .taken))
+    hit-none (bookOf (a .book .now)) (a .set) (a .right)
+    (none-hits (bookOf (a .book .now)) (a .rules) (a .masks .now) (s .pre) (a .set) (a .right) (c .if1 .taken))
 
 loop-holds : tie.Need-loop-holds Inv-loop μ-loop
 loop-holds c =
@@ -44,7 +45,8 @@ add-n c =
     let s = c .before .before .before .before .before .before .before in
     let a = s .args in
     let l = c .before .before .before .loop in
-    let w = tally-low (passes (bookOf (a .book .now)) (a .set) (a .right)) (length (bookOf (a .book .now) .words)) (hitCount (bookOf (a .book .now)) (a .set) (a .right)) (l .rule) (l .n) (l .inv) in
+    let w = tally-low (passes (bookOf (a .book .now)) (a .set) (a .right)) (length (bookOf (a .book .now) .words))
+    (hitCount (bookOf (a .book .now)) (a .set) (a .right)) (l .rule) (l .n) (l .inv) in
     omega (arith, w, hit-most (bookOf (a .book .now)) (a .set) (a .right), s .pre .sound .rules)
 
 loop-less : tie.Need-loop-less Inv-loop μ-loop
@@ -56,7 +58,8 @@ loop-again c =
     let a = s .args in
     let l = c .before .before .before .loop in
     let h : l .rule < length (bookOf (a .book .now) .words) = omega (arith, s .pre .many) in
-    hit-yes (bookOf (a .book .now)) (a .set) (a .right) (l .rule) (l .n) (l .inv) h (c .before .rule-hits .result) (c .before .rule-hits .ensures) (c .if2 .taken)
+    hit-yes (bookOf (a .book .now)) (a .set) (a .right) (l .rule) (l .n) (l .inv) h (c .before .rule-hits .result) (c .before .rule-hits .ensures)
+    (c .if2 .taken)
 
 loop-less-2 : tie.Need-loop-less-2 Inv-loop μ-loop
 loop-less-2 c = search needs
@@ -74,7 +77,8 @@ returns-2 c =
     let s = c .before .before .before .before .before in
     let a = s .args in
     let l = c .before .loop in
-    tally-end (passes (bookOf (a .book .now)) (a .set) (a .right)) (length (bookOf (a .book .now) .words)) (hitCount (bookOf (a .book .now)) (a .set) (a .right)) (l .rule) (l .n) (l .inv) (omega (arith, s .pre .many))
+    tally-end (passes (bookOf (a .book .now)) (a .set) (a .right)) (length (bookOf (a .book .now) .words))
+    (hitCount (bookOf (a .book .now)) (a .set) (a .right)) (l .rule) (l .n) (l .inv) (omega (arith, s .pre .many))
 
 pub hit-count-spec : {M : Type 1} → statement M
 hit-count-spec =

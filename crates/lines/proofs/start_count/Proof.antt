@@ -18,10 +18,11 @@ abbrev μ-loop : tie.MeasureT-loop
 
 right-set-requires : tie.Need-right-set-requires Inv-loop μ-loop
 right-set-requires c κs =
-    (omega (arith, c .before .before .before .before .pre .1 .0 .scratch-room, c .before .before .before .before .pre .1 .1 .0), c .before .before .before .before .pre .1 .0 .sets-room)
+    let s = c .before .before .before .before in
+    (omega (arith, s .pre .1 .0 .scratch-room, s .pre .1 .1 .0), s .pre .1 .0 .sets-room)
 
-focus-first-requires : tie.Need-focus-first-requires Inv-loop μ-loop
-focus-first-requires c κs =
+first-set-requires : tie.Need-first-set-requires Inv-loop μ-loop
+first-set-requires c κs =
     c .before .before .before .before .before .pre .0 .tests
 
 loop-holds : tie.Need-loop-holds Inv-loop μ-loop
@@ -29,7 +30,8 @@ loop-holds c =
     let s = c .before .before .before .before .before .before in
     let a = s .args in
     let R = c .before .right-set in
-    counting-start (a .book .now) (a .tape .now) (a .sets .now) (a .scratch .now) (s .pre .1 .0) (a .from) (a .left) (R .result) (c .focus-first .result) (s .pre .1 .1 .0) (s .pre .1 .1 .2) (R .ensures) (c .focus-first .ensures)
+    counting-start (a .book .now) (a .tape .now) (a .sets .now) (a .scratch .now) (s .pre .1 .0) (a .from) (a .left) (R .result) (c .first-set .result)
+    (s .pre .1 .1 .0) (s .pre .1 .1 .2) (R .ensures) (c .first-set .ensures)
 
 returns : tie.Need-returns Inv-loop μ-loop
 returns c =
@@ -43,14 +45,16 @@ add-right-set c = search needs
 
 right-set-requires-2 : tie.Need-right-set-requires-2 Inv-loop μ-loop
 right-set-requires-2 c κs =
-    (omega (arith, c .before .before .before .before .before .before .before .before .before .pre .1 .0 .scratch-room), c .before .before .before .before .before .before .before .before .before .pre .1 .0 .sets-room)
+    let s = c .before .before .before .before .before .before .before .before .before in
+    (omega (arith, s .pre .1 .0 .scratch-room), s .pre .1 .0 .sets-room)
 
 shared-slice-read-focus-next : tie.Need-shared-slice-read-focus-next Inv-loop μ-loop
 shared-slice-read-focus-next c = search needs
 
 focus-next-requires : tie.Need-focus-next-requires Inv-loop μ-loop
 focus-next-requires c κs =
-    (c .before .before .before .before .before .before .before .before .before .before .before .pre .1 .0 .accepted, c .before .before .before .before .before .before .before .before .before .before .before .pre .0 .placed)
+    let s = c .before .before .before .before .before .before .before .before .before .before .before in
+    (s .pre .1 .0 .accepted, s .pre .0 .placed)
 
 add-j : tie.Need-add-j Inv-loop μ-loop
 add-j c = search needs
@@ -68,7 +72,8 @@ add-n c =
     let X = c .before .focus-next in
     let r = c .hit-count in
     let h : l .j < length (a .tape .now) = c .before .before .before .before .before .loop-test .taken in
-    let did = counting-turn (a .book .now) (a .tape .now) (a .sets .now) (a .scratch .now) (s .pre .1 .0) (a .from) (l .j) (l .set) (l .n) (l .inv) h (R .result) (X .result) (r .result) (R .ensures) (X .ensures) (r .ensures) in
+    let did = counting-turn (a .book .now) (a .tape .now) (a .sets .now) (a .scratch .now) (s .pre .1 .0) (a .from) (l .j) (l .set) (l .n) (l .inv) h
+    (R .result) (X .result) (r .result) (R .ensures) (X .ensures) (r .ensures) in
     omega (arith, did .tally .count, start-most (bookOf (a .book .now)) (s .pre .0 .tests .sound) (a .tape .now) (s .pre .1 .1 .1) (a .from))
 
 loop-less : tie.Need-loop-less Inv-loop μ-loop
@@ -83,7 +88,8 @@ loop-again c =
     let X = c .before .focus-next in
     let r = c .hit-count in
     let h : l .j < length (a .tape .now) = c .before .before .before .before .before .loop-test .taken in
-    counting-turn (a .book .now) (a .tape .now) (a .sets .now) (a .scratch .now) (s .pre .1 .0) (a .from) (l .j) (l .set) (l .n) (l .inv) h (R .result) (X .result) (r .result) (R .ensures) (X .ensures) (r .ensures)
+    counting-turn (a .book .now) (a .tape .now) (a .sets .now) (a .scratch .now) (s .pre .1 .0) (a .from) (l .j) (l .set) (l .n) (l .inv) h (R .result)
+    (X .result) (r .result) (R .ensures) (X .ensures) (r .ensures)
 
 returns-2 : tie.Need-returns-2 Inv-loop μ-loop
 returns-2 c =
@@ -99,7 +105,7 @@ start-count-spec =
     Inv-loop
     μ-loop
     right-set-requires
-    focus-first-requires
+    first-set-requires
     loop-holds
     returns
     add-right-set

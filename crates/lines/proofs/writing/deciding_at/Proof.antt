@@ -16,7 +16,8 @@ taken-at-requires c κs = search needs
 
 returns-2 : tie.Need-returns-2
 returns-2 c =
-    let a = c .before .before .before .before .before .before .before .before .before .args in
+    let s = c .before .before .before .before .before .before .before .before .before in
+    let a = s .args in
     let t = c .taken-at in
     (deciding-new (rulesIn (a .book .now)) (a .tape .now) (a .i) (a .d) (t .result .end) (t .result .rule) (omega arith) (t .ensures .0), t .ensures .1)
 

@@ -1,5 +1,5 @@
 -- `writing::put_if` meets its contract: the line is kept where the rule passes, and nothing is written where it does not. Assumes nothing.
-use mathlib.Core.Path.{sym}
+use native.Mathlib.Omega.{arith}
 use borrow.Author.Needs.{needs}
 use Rattle.book.specs.Reading.{bookOf}
 use Rattle.lines.specs.Lines.{lineBy}
@@ -11,52 +11,39 @@ use Rattle.lines.proofs.writing.put_if.Tie as tie
 rule-hits-requires : tie.Need-rule-hits-requires
 rule-hits-requires c κs = search needs
 
-verdict-of-requires : tie.Need-verdict-of-requires
-verdict-of-requires c κs = search needs
-
-cast-put-line : tie.Need-cast-put-line
-cast-put-line c = search needs
-
-cast-put-line-2 : tie.Need-cast-put-line-2
-cast-put-line-2 c = search needs
-
-cast-put-line-3 : tie.Need-cast-put-line-3
-cast-put-line-3 c = search needs
-
-cast-put-line-4 : tie.Need-cast-put-line-4
-cast-put-line-4 c = search needs
-
 put-line-requires : tie.Need-put-line-requires
 put-line-requires c κs =
-    let s = c .before .before .before .before .before .before in
+    let s = c .before .before .before .before .before in
     let a = s .args in
-    kept-room (c .before .before .before .rule-hits .result) (hits (bookOf (a .book .now)) (a .set) (a .right) (a .r)) (lineBy (a .i) (a .j) (a .r) (a .d)) (a .at) (a .lines .now) (c .before .before .before .rule-hits .ensures) (c .before .before .if1 .taken) (s .pre .1 .1)
+    let hit = c .before .before .rule-hits in
+    let few = s .pre .0 .sound .rules in
+    let fits = s .pre .1 .0 in
+    let line = lineBy (a .i) (a .j) (a .r) (a .d) in (
+      (omega (arith, s .pre .0 .many, few, fits .0), fits .1, fits .2, fits .3),
+      kept-room (hit .result) (hits (bookOf (a .book .now)) (a .set) (a .right) (a .r)) line (a .at) (a .lines .now) (hit .ensures) (c .before .if1 .taken)
+          (s .pre .1 .1),
+    )
 
 same-length : tie.Need-same-length
 same-length c = search needs
 
 returns : tie.Need-returns
 returns c =
-    let a = c .before .before .before .before .before .before .before .before .before .args in
+    let a = c .before .before .before .before .before .before .before .before .args in
+    let hit = c .before .before .before .before .before .rule-hits in
+    let taken = c .before .before .before .before .if1 .taken in
     let u = c .before .before .put-line in
-    kept-yes (c .before .before .before .before .before .before .rule-hits .result) (hits (bookOf (a .book .now)) (a .set) (a .right) (a .r)) (lineBy (a .i) (a .j) (a .r) (a .d)) (a .at) (a .lines .now) (u .result) (u .last .0) (c .before .before .before .before .before .before .rule-hits .ensures) (c .before .before .before .before .before .if1 .taken) (rw (sym (c .before .before .before .before .verdict-of .ensures)) (u .ensures))
+    let line = lineBy (a .i) (a .j) (a .r) (a .d) in
+    kept-yes (hit .result) (hits (bookOf (a .book .now)) (a .set) (a .right) (a .r)) line (a .at) (a .lines .now)
+    (u .result) (u .last .0) (hit .ensures) taken (u .ensures)
 
 returns-2 : tie.Need-returns-2
 returns-2 c =
     let a = c .before .before .before .before .args in
-    kept-no (c .before .rule-hits .result) (hits (bookOf (a .book .now)) (a .set) (a .right) (a .r)) (lineBy (a .i) (a .j) (a .r) (a .d)) (a .at) (a .lines .now) (c .before .rule-hits .ensures) (c .if1 .left)
+    let hit = c .before .rule-hits in
+    let line = lineBy (a .i) (a .j) (a .r) (a .d) in
+    kept-no (hit .result) (hits (bookOf (a .book .now)) (a .set) (a .right) (a .r)) line (a .at) (a .lines .now) (hit .ensures) (c .if1 .left)
 
 pub put-if-spec : {M : Type 1} → statement M
 put-if-spec =
-    tie.close
-    (tie.spec
-    rule-hits-requires
-    verdict-of-requires
-    cast-put-line
-    cast-put-line-2
-    cast-put-line-3
-    cast-put-line-4
-    put-line-requires
-    same-length
-    returns
-    returns-2)
+    tie.close (tie.spec rule-hits-requires put-line-requires same-length returns returns-2)

@@ -2,9 +2,19 @@
 use native.Mathlib.Omega.{arith}
 use borrow.Author.Needs.{needs}
 use lib.ListN.{length-set}
+use Rattle.lines.specs.Lines.{lineBy}
 use Rattle.lines.proofs.Written.{put-words}
 use Rattle.lines.proofs.writing.put_line.Statement.{statement}
 use Rattle.lines.proofs.writing.put_line.Tie as tie
+
+verdict-of-requires : tie.Need-verdict-of-requires
+verdict-of-requires c κs = search needs
+
+cast-lines : tie.Need-cast-lines
+cast-lines c = search needs
+
+add-lines : tie.Need-add-lines
+add-lines c = search needs
 
 mul-lines : tie.Need-mul-lines
 mul-lines c = search needs
@@ -12,8 +22,11 @@ mul-lines c = search needs
 slice-write-lines : tie.Need-slice-write-lines
 slice-write-lines c = search needs
 
-add-lines : tie.Need-add-lines
-add-lines c = search needs
+cast-lines-2 : tie.Need-cast-lines-2
+cast-lines-2 c = search needs
+
+add-lines-2 : tie.Need-add-lines-2
+add-lines-2 c = search needs
 
 mul-lines-2 : tie.Need-mul-lines-2
 mul-lines-2 c = search needs
@@ -22,8 +35,11 @@ slice-write-lines-2 : tie.Need-slice-write-lines-2
 slice-write-lines-2 c =
     simp length-set (omega arith)
 
-add-lines-2 : tie.Need-add-lines-2
-add-lines-2 c = search needs
+cast-lines-3 : tie.Need-cast-lines-3
+cast-lines-3 c = search needs
+
+add-lines-3 : tie.Need-add-lines-3
+add-lines-3 c = search needs
 
 mul-lines-3 : tie.Need-mul-lines-3
 mul-lines-3 c = search needs
@@ -32,8 +48,8 @@ slice-write-lines-3 : tie.Need-slice-write-lines-3
 slice-write-lines-3 c =
     simp length-set (omega arith)
 
-add-lines-3 : tie.Need-add-lines-3
-add-lines-3 c = search needs
+add-lines-4 : tie.Need-add-lines-4
+add-lines-4 c = search needs
 
 mul-lines-4 : tie.Need-mul-lines-4
 mul-lines-4 c = search needs
@@ -42,8 +58,11 @@ slice-write-lines-4 : tie.Need-slice-write-lines-4
 slice-write-lines-4 c =
     simp length-set (omega arith)
 
-add-lines-4 : tie.Need-add-lines-4
-add-lines-4 c = search needs
+cast-lines-4 : tie.Need-cast-lines-4
+cast-lines-4 c = search needs
+
+add-lines-5 : tie.Need-add-lines-5
+add-lines-5 c = search needs
 
 mul-lines-5 : tie.Need-mul-lines-5
 mul-lines-5 c = search needs
@@ -60,25 +79,32 @@ same-length c = search needs
 
 returns : tie.Need-returns
 returns c =
-    let a = c .args in
-    put-words (record { rule = a .rule; start = a .start; end = a .end; verdict = a .verdict; deciding = a .deciding }) (a .lines .now) (a .at) (c .pre)
+    let s = c .before .before .before in
+    let a = s .args in
+    rw (c .before .verdict-of .ensures) (put-words (lineBy (a .i) (a .j) (a .r) (a .d)) (a .lines .now) (a .at) (s .pre .1))
 
 pub put-line-spec : {M : Type 1} → statement M
 put-line-spec =
     tie.close
     (tie.spec
+    verdict-of-requires
+    cast-lines
+    add-lines
     mul-lines
     slice-write-lines
-    add-lines
+    cast-lines-2
+    add-lines-2
     mul-lines-2
     slice-write-lines-2
-    add-lines-2
+    cast-lines-3
+    add-lines-3
     mul-lines-3
     slice-write-lines-3
-    add-lines-3
+    add-lines-4
     mul-lines-4
     slice-write-lines-4
-    add-lines-4
+    cast-lines-4
+    add-lines-5
     mul-lines-5
     slice-write-lines-5
     add-result

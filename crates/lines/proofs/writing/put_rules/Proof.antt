@@ -24,7 +24,8 @@ returns : tie.Need-returns Inv-loop μ-loop
 returns c =
     let s = c .before .before .before .before in
     let a = s .args in
-    lined-none (bookOf (a .book .now)) (a .set) (a .right) (a .i) (a .j) (a .d) (a .lines .now) (a .at) (none-hits (bookOf (a .book .now)) (a .rules) (a .masks .now) (s .pre .0) (a .set) (a .right) (c .if1 .taken))
+    lined-none (bookOf (a .book .now)) (a .set) (a .right) (a .i) (a .j) (a .d) (a .lines .now) (a .at)
+    (none-hits (bookOf (a .book .now)) (a .rules) (a .masks .now) (s .pre .0) (a .set) (a .right) (c .if1 .taken))
 
 loop-holds : tie.Need-loop-holds Inv-loop μ-loop
 loop-holds c =
@@ -37,8 +38,14 @@ put-if-requires c κs =
     let s = c .before .before .before .before .before .before .before in
     let a = s .args in
     let l = c .before .before .loop in
-    let h : l .r < length (bookOf (a .book .now) .words) = omega (arith, s .pre .0 .many) in
-    (s .pre .0, ((omega arith, s .pre .1 .0 .0, s .pre .1 .0 .1, s .pre .1 .0 .2), lined-room (bookOf (a .book .now)) (a .set) (a .right) (a .i) (a .j) (a .d) (a .lines .now) (l .lines) (a .at) (l .p) (l .r) (l .inv) h))
+    let h : l .r < length (bookOf (a .book .now) .words) = omega (arith, s .pre .0 .many) in (
+      s .pre .0,
+      (
+        (omega arith, s .pre .1 .0 .0, s .pre .1 .0 .1, s .pre .1 .0 .2),
+        lined-room (bookOf (a .book .now)) (a .set) (a .right) (a .i) (a .j) (a .d)
+            (a .lines .now) (l .lines) (a .at) (l .p) (l .r) (l .inv) h,
+      ),
+    )
 
 add-r : tie.Need-add-r Inv-loop μ-loop
 add-r c = search needs
@@ -53,7 +60,8 @@ loop-again c =
     let l = c .before .before .before .before .before .loop in
     let u = c .before .before .put-if in
     let h : l .r < length (bookOf (a .book .now) .words) = omega (arith, s .pre .0 .many, c .before .before .before .before .loop-test .taken) in
-    lined-turn (bookOf (a .book .now)) (a .set) (a .right) (a .i) (a .j) (a .d) (a .lines .now) (l .lines) (a .at) (l .p) (l .r) (l .inv) h (u .result) (u .last .1 .1 .1 .1 .1 .1 .1 .1 .1 .0) (u .ensures)
+    lined-turn (bookOf (a .book .now)) (a .set) (a .right) (a .i) (a .j) (a .d) (a .lines .now) (l .lines) (a .at) (l .p) (l .r) (l .inv) h (u .result)
+    (u .last .1 .1 .1 .1 .1 .1 .1 .1 .1 .0) (u .ensures)
 
 same-length : tie.Need-same-length Inv-loop μ-loop
 same-length c = search needs
@@ -63,7 +71,8 @@ returns-2 c =
     let s = c .before .before .before .before .before .before in
     let a = s .args in
     let l = c .before .loop in
-    lined-end (bookOf (a .book .now)) (a .set) (a .right) (a .i) (a .j) (a .d) (a .lines .now) (l .lines) (a .at) (l .p) (l .r) (l .inv) (omega (arith, s .pre .0 .many))
+    lined-end (bookOf (a .book .now)) (a .set) (a .right) (a .i) (a .j) (a .d) (a .lines .now) (l .lines) (a .at) (l .p) (l .r) (l .inv)
+    (omega (arith, s .pre .0 .many))
 
 pub put-rules-spec : {M : Type 1} → statement M
 put-rules-spec =

@@ -5,7 +5,7 @@ use borrow.Author.Needs.{needs}
 use lib.ListN.{length}
 use Rattle.book.specs.Reading.{bookOf}
 use Rattle.stretches.specs.Ready.{Remembers}
-use Rattle.lines.proofs.Listings.{Accounting, accounting-start, accounting-room, accounting-turn, accounting-end, deciding-low}
+use Rattle.lines.proofs.Listings.{Accounting, accounting-start, accounting-room, accounting-turn, accounting-end, deciding-here}
 use Rattle.stretches.proofs.Scans.{rights-of}
 use Rattle.stretches.proofs.Remembering.{remembers-start}
 use Rattle.lines.proofs.writing.write_lines.Statement.{statement}
@@ -22,21 +22,29 @@ abbrev μ-loop : tie.MeasureT-loop
 loop-holds : tie.Need-loop-holds Inv-loop μ-loop
 loop-holds c =
     let s = c .before .before .before .before .before .before in
-    let a = s .args in
-    (accounting-start (a .book .now) (a .tape .now) (a .rows .now) (a .sets .now) (a .scratch .now) (a .lines .now) (s .pre .1 .0) (s .pre .1 .1), remembers-start (bookOf (a .book .now)))
+    let a = s .args in (
+      accounting-start (a .book .now) (a .tape .now) (a .rows .now) (a .sets .now) (a .scratch .now) (a .lines .now) (s .pre .1 .0) (s .pre .1 .1),
+      remembers-start (bookOf (a .book .now)),
+    )
 
 mul-left : tie.Need-mul-left Inv-loop μ-loop
 mul-left c = search needs
 
 shared-slice-read-left : tie.Need-shared-slice-read-left Inv-loop μ-loop
 shared-slice-read-left c =
-    omega (arith, c .before .before .loop .inv .0 .left .below, c .before .before .before .before .before .before .before .before .before .pre .1 .0 .few, c .before .before .before .before .before .before .before .before .before .pre .1 .0 .sets-room)
+    let s = c .before .before .before .before .before .before .before .before .before in
+    omega (arith, c .before .before .loop .inv .0 .left .below, s .pre .1 .0 .few, s .pre .1 .0 .sets-room)
 
 deciding-at-requires : tie.Need-deciding-at-requires Inv-loop μ-loop
 deciding-at-requires c κs =
     let s = c .before .before .before .before .before .before .before .before .before .before .before in
-    let a = s .args in
-    (s .pre .0, (rights-of (a .book .now) (a .tape .now) (a .rows .now) (a .sets .now) (a .scratch .now) (s .pre .1 .0), ((omega arith, c .before .before .before .before .loop .inv .0 .left .is), c .before .before .before .before .loop .inv .1)))
+    let a = s .args in (
+      s .pre .0,
+      (
+        rights-of (a .book .now) (a .tape .now) (a .rows .now) (a .sets .now) (a .scratch .now) (s .pre .1 .0),
+        ((omega arith, c .before .before .before .before .loop .inv .0 .left .is), c .before .before .before .before .loop .inv .1),
+      ),
+    )
 
 lines-at-requires : tie.Need-lines-at-requires Inv-loop μ-loop
 lines-at-requires c κs =
@@ -46,22 +54,26 @@ lines-at-requires c κs =
     let d = c .before .deciding-at in
     let h : l .i < length (a .tape .now) = c .before .before .before .before .before .loop-test .taken in
     let seen = rights-of (a .book .now) (a .tape .now) (a .rows .now) (a .sets .now) (a .scratch .now) (s .pre .1 .0) in
-    let low = deciding-low (a .book .now) (a .tape .now) (a .rows .now) (a .sets .now) (a .scratch .now) (a .lines .now) (s .pre .1 .0) (l .lines) (l .at) (l .d) (l .k) (l .i) (l .inv .0) (d .result) (d .ensures .0) in
-    let room = accounting-room (a .book .now) (a .tape .now) (a .rows .now) (a .sets .now) (a .scratch .now) (a .lines .now) (s .pre .1 .0) (l .lines) (l .at) (l .d) (l .k) (l .i) (l .inv .0) (d .result) (d .ensures .0) h in
-    (s .pre .0, (seen, ((omega arith, l .inv .0 .left .is), ((s .pre .1 .0 .tape-fits, low), room))))
+    let decides = deciding-here (a .book .now) (a .tape .now) (a .rows .now) (a .sets .now) (a .scratch .now) (a .lines .now) (s .pre .1 .0) (l .lines) (l .at)
+    (l .d) (l .k) (l .i) (l .inv .0) (d .result) (d .ensures .0) in
+    let room = accounting-room (a .book .now) (a .tape .now) (a .rows .now) (a .sets .now) (a .scratch .now) (a .lines .now) (s .pre .1 .0) (l .lines) (l .at)
+    (l .d) (l .k) (l .i) (l .inv .0) (d .result) (d .ensures .0) h in
+    (s .pre .0, (seen, ((omega arith, l .inv .0 .left .is), ((s .pre .1 .0 .tape-fits, decides), room))))
 
 shared-slice-read-left-entry : tie.Need-shared-slice-read-left-entry Inv-loop μ-loop
 shared-slice-read-left-entry c = search needs
 
 left-entry-requires : tie.Need-left-entry-requires Inv-loop μ-loop
 left-entry-requires c κs =
+    let s = c .before .before .before .before .before .before .before .before .before .before .before .before .before .before .before .before .before in
     let l = c .before .before .before .before .before .before .before .before .before .before .loop in
-    let h : l .i < length (c .before .before .before .before .before .before .before .before .before .before .before .before .before .before .before .before .before .args .tape .now) = c .before .before .before .before .before .before .before .before .before .loop-test .taken in
-    (omega (arith, l .inv .0 .left .below, c .before .before .before .before .before .before .before .before .before .before .before .before .before .before .before .before .before .pre .1 .0 .few), c .before .before .before .before .before .before .before .before .before .before .before .before .before .before .before .before .before .pre .1 .0 .symbols (l .i) h, c .before .before .before .before .before .before .before .before .before .before .before .before .before .before .before .before .before .pre .1 .0 .rows-room)
+    let h : l .i < length (s .args .tape .now) = c .before .before .before .before .before .before .before .before .before .loop-test .taken in
+    (omega (arith, l .inv .0 .left .below, s .pre .1 .0 .few), s .pre .1 .0 .symbols (l .i) h, s .pre .1 .0 .rows-room)
 
 add-i : tie.Need-add-i Inv-loop μ-loop
 add-i c =
-    omega (arith, c .before .before .before .before .before .before .before .before .before .before .loop-test .taken, c .before .before .before .before .before .before .before .before .before .before .before .before .before .before .before .before .before .before .pre .1 .0 .tape-fits)
+    let s = c .before .before .before .before .before .before .before .before .before .before .before .before .before .before .before .before .before .before in
+    omega (arith, c .before .before .before .before .before .before .before .before .before .before .loop-test .taken, s .pre .1 .0 .tape-fits)
 
 loop-less : tie.Need-loop-less Inv-loop μ-loop
 loop-less c = search needs
@@ -73,8 +85,12 @@ loop-again c =
     let l = c .before .before .before .before .before .before .before .before .before .before .before .loop in
     let d = c .before .before .before .before .before .before .deciding-at in
     let u = c .before .before .before .before .lines-at in
-    let h : l .i < length (a .tape .now) = c .before .before .before .before .before .before .before .before .before .before .loop-test .taken in
-    (accounting-turn (a .book .now) (a .tape .now) (a .rows .now) (a .sets .now) (a .scratch .now) (a .lines .now) (s .pre .1 .0) (l .lines) (l .at) (l .d) (l .k) (l .i) (l .inv .0) (d .result) (d .ensures .0) h (u .result) (c .left-entry .result) (u .last .1 .1 .1 .1 .1 .1 .1 .1 .1 .1 .0) (u .ensures) (c .left-entry .ensures), d .ensures .1)
+    let h : l .i < length (a .tape .now) = c .before .before .before .before .before .before .before .before .before .before .loop-test .taken in (
+      accounting-turn (a .book .now) (a .tape .now) (a .rows .now) (a .sets .now) (a .scratch .now) (a .lines .now) (s .pre .1 .0) (l .lines) (l .at) (l .d)
+          (l .k) (l .i) (l .inv .0) (d .result) (d .ensures .0) h (u .result) (c .left-entry .result) (u .last .1 .1 .1 .1 .1 .1 .1 .1 .1 .1 .0) (u .ensures)
+          (c .left-entry .ensures),
+      d .ensures .1,
+    )
 
 same-length : tie.Need-same-length Inv-loop μ-loop
 same-length c = search needs
@@ -84,7 +100,8 @@ returns c =
     let s = c .before .before .before .before .before .before .before .before in
     let a = s .args in
     let l = c .before .loop in
-    accounting-end (a .book .now) (a .tape .now) (a .rows .now) (a .sets .now) (a .scratch .now) (a .lines .now) (s .pre .1 .0) (l .lines) (l .at) (l .d) (l .k) (l .i) (l .inv .0) (omega arith)
+    accounting-end (a .book .now) (a .tape .now) (a .rows .now) (a .sets .now) (a .scratch .now) (a .lines .now) (s .pre .1 .0) (l .lines) (l .at) (l .d) (l .k)
+    (l .i) (l .inv .0) (omega arith)
 
 pub write-lines-spec : {M : Type 1} → statement M
 write-lines-spec =

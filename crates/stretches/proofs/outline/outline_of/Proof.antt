@@ -2,9 +2,9 @@
 use mathlib.Core.Path.{refl}
 use borrow.Author.Needs.{needs}
 use Rattle.book.specs.Reading.{bookOf}
+use Rattle.book.proofs.Claims.{sound}
 use Rattle.book.proofs.Placing.{placed}
 use Rattle.stretches.proofs.Outlines.{all-tests}
-use Rattle.stretches.proofs.Scans.{sound-of}
 use Rattle.stretches.proofs.outline.outline_of.Statement.{statement}
 use Rattle.stretches.proofs.outline.outline_of.Tie as tie
 
@@ -31,14 +31,17 @@ place-states-requires c κs = search needs
 
 returns : tie.Need-returns
 returns c =
-    let a = c .before .before .before .before .before .before .before .before .before .before .before .args in
+    let s = c .before .before .before .before .before .before .before .before .before .before .before in
+    let a = s .args in
     let l = c .before .before .before .before .before .before .before .before .put-masks in
     let f = c .before .before .before .before .before .before .put-masks2 in
     let x = c .before .before .before .before .put-masks3 in
     let r = c .before .before .put-masks4 in
     record {
-      placed = placed (a .book .now) _ (c .before .before .before .before .before .before .before .before .before .before .before .pre) (c .before .place-states .ensures);
-      tests = all-tests (bookOf (a .book .now)) _ (l .last .1 .1 .1 .0) (f .last .1 .1 .1 .0) (x .last .1 .1 .1 .0) (r .last .1 .1 .1 .0) (f .result) (x .result) refl (l .ensures .1) (f .ensures .1) (x .ensures .1) (r .ensures .1) (sound-of (a .book .now) (c .before .before .before .before .before .before .before .before .before .before .before .pre)) (f .ensures .0) (x .ensures .0);
+      placed = placed (a .book .now) _ (s .pre) (c .before .place-states .ensures);
+      tests =
+          all-tests (bookOf (a .book .now)) _ (l .last .1 .1 .1 .0) (f .last .1 .1 .1 .0) (x .last .1 .1 .1 .0) (r .last .1 .1 .1 .0) (f .result)
+          (x .result) refl (l .ensures .1) (f .ensures .1) (x .ensures .1) (r .ensures .1) (sound (a .book .now) (s .pre)) (f .ensures .0) (x .ensures .0);
     }
 
 pub outline-of-spec : {M : Type 1} → statement M

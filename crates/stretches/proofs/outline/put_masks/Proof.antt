@@ -2,6 +2,7 @@
 use Prim.Native.Nat.{_-_}
 use native.Mathlib.Omega.{arith}
 use borrow.Author.Needs.{needs}
+use Rattle.book.specs.Format.{mostRules}
 use Rattle.stretches.proofs.Outlines.{Putting, putting-start, putting-turn, putting-end}
 use Rattle.stretches.proofs.outline.put_masks.Statement.{statement}
 use Rattle.stretches.proofs.outline.put_masks.Tie as tie
@@ -10,7 +11,7 @@ abbrev Inv-loop : tie.InvT-loop
 Inv-loop book part flag masks₀ at of rule₀ masks rule = Putting (of .each) at masks₀ masks rule
 
 abbrev μ-loop : tie.MeasureT-loop
-μ-loop book part flag masks₀ at of rule₀ masks rule = 16 - rule
+μ-loop book part flag masks₀ at of rule₀ masks rule = mostRules - rule
 
 mask-states-requires : tie.Need-mask-states-requires Inv-loop μ-loop
 mask-states-requires c κs = search needs

@@ -30,8 +30,11 @@ returns : tie.Need-returns
 returns c =
     let s = c .before .before .before .before .before .before .before in
     let a = s .args in
-    let k = c .before .before .before .before .before .slot-of in
-    (remembers-seen (bookOf (a .book .now)) (a .steps .now) (a .symbols .now) (k .result) (a .set) (a .symbol) (s .pre .1 .1) (k .ensures) (c .before .before .before .if1 .taken) (c .before .if2 .taken), s .pre .1 .1)
+    let k = c .before .before .before .before .before .slot-of in (
+      remembers-seen (bookOf (a .book .now)) (a .steps .now) (a .symbols .now) (k .result) (a .set) (a .symbol) (s .pre .1 .1) (k .ensures)
+          (c .before .before .before .if1 .taken) (c .before .if2 .taken),
+      s .pre .1 .1,
+    )
 
 focus-step-requires : tie.Need-focus-step-requires
 focus-step-requires c κs = search needs
@@ -59,8 +62,11 @@ returns-2 c =
     let s = c .before .before .before .before .before in
     let a = s .args in
     let k = c .before .before .before .slot-of in
-    let f = c .focus-step in
-    (f .ensures, remembers-put (bookOf (a .book .now)) (a .steps .now) (a .symbols .now) (k .result) (a .set) (a .symbol) (f .result) (s .pre .1 .1) (k .ensures) (f .ensures))
+    let f = c .focus-step in (
+      f .ensures,
+      remembers-put (bookOf (a .book .now)) (a .steps .now) (a .symbols .now) (k .result) (a .set) (a .symbol) (f .result) (s .pre .1 .1)
+          (k .ensures) (f .ensures),
+    )
 
 pub remembered-spec : {M : Type 1} → statement M
 remembered-spec =

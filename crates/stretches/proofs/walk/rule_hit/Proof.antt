@@ -33,8 +33,10 @@ rule-hits-requires c κs =
 
 returns-2 : tie.Need-returns-2 Inv-loop μ-loop
 returns-2 c =
-    let a = c .before .before .before .before .before .before .before .args in
-    seek-found (bookOf (a .book .now)) (a .set) (a .right) (a .rules) (c .before .before .before .loop .rule) (c .before .before .before .loop .inv) (c .before .before .loop-test .taken) (sym (c .before .rule-hits .ensures) ∙ c .if2 .taken)
+    let s = c .before .before .before .before .before .before .before in
+    let a = s .args in
+    seek-found (bookOf (a .book .now)) (a .set) (a .right) (a .rules) (c .before .before .before .loop .rule) (c .before .before .before .loop .inv)
+    (c .before .before .loop-test .taken) (sym (c .before .rule-hits .ensures) ∙ c .if2 .taken)
 
 add-rule : tie.Need-add-rule Inv-loop μ-loop
 add-rule c = search needs
@@ -44,8 +46,10 @@ loop-less c = search needs
 
 loop-again : tie.Need-loop-again Inv-loop μ-loop
 loop-again c =
-    let a = c .before .before .before .before .before .before .before .args in
-    seek-turn (bookOf (a .book .now)) (a .set) (a .right) (a .rules) (c .before .before .before .loop .rule) (c .before .before .before .loop .inv) (c .before .before .loop-test .taken) (sym (c .before .rule-hits .ensures) ∙ c .if2 .left)
+    let s = c .before .before .before .before .before .before .before in
+    let a = s .args in
+    seek-turn (bookOf (a .book .now)) (a .set) (a .right) (a .rules) (c .before .before .before .loop .rule) (c .before .before .before .loop .inv)
+    (c .before .before .loop-test .taken) (sym (c .before .rule-hits .ensures) ∙ c .if2 .left)
 
 returns-3 : tie.Need-returns-3 Inv-loop μ-loop
 returns-3 c =

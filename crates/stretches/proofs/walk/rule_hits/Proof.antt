@@ -19,8 +19,9 @@ element-copy-out-if1 c =
 
 returns : tie.Need-returns
 returns c =
-    let a = c .before .before .args in
-    miss-focus (bookOf (a .book .now)) (a .rules) (a .masks .now) (c .before .before .pre .0) (a .set) (a .right) (a .rule) (c .before .before .pre .1) (c .if1 .taken)
+    let s = c .before .before in
+    let a = s .args in
+    miss-focus (bookOf (a .book .now)) (a .rules) (a .masks .now) (s .pre .0) (a .set) (a .right) (a .rule) (s .pre .1) (c .if1 .taken)
 
 add-if2 : tie.Need-add-if2
 add-if2 c =
@@ -36,13 +37,16 @@ element-copy-out-if2 c =
 
 returns-2 : tie.Need-returns-2
 returns-2 c =
-    let a = c .before .before .before .before .args in
-    miss-right (bookOf (a .book .now)) (a .rules) (a .masks .now) (c .before .before .before .before .pre .0) (a .set) (a .right) (a .rule) (c .before .before .before .before .pre .1) (c .if2 .taken)
+    let s = c .before .before .before .before in
+    let a = s .args in
+    miss-right (bookOf (a .book .now)) (a .rules) (a .masks .now) (s .pre .0) (a .set) (a .right) (a .rule) (s .pre .1) (c .if2 .taken)
 
 returns-3 : tie.Need-returns-3
 returns-3 c =
-    let a = c .before .before .before .before .args in
-    hit-both (bookOf (a .book .now)) (a .rules) (a .masks .now) (c .before .before .before .before .pre .0) (a .set) (a .right) (a .rule) (c .before .before .before .before .pre .1) (c .before .before .if1 .left) (c .if2 .left)
+    let s = c .before .before .before .before in
+    let a = s .args in
+    hit-both (bookOf (a .book .now)) (a .rules) (a .masks .now) (s .pre .0) (a .set) (a .right) (a .rule) (s .pre .1) (c .before .before .if1 .left)
+    (c .if2 .left)
 
 pub rule-hits-spec : {M : Type 1} → statement M
 rule-hits-spec =

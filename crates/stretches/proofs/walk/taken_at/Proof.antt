@@ -6,14 +6,14 @@ use borrow.Author.Needs.{needs}
 use lib.ListN.{length}
 use Rattle.book.specs.Reading.{bookOf}
 use Rattle.stretches.specs.Ready.{Remembers}
-use Rattle.stretches.proofs.Scans.{Scan, walk-start, walk-hit, walk-miss, walk-dead, walk-end}
+use Rattle.stretches.proofs.Scans.{Scanned, walk-start, walk-hit, walk-miss, walk-dead, walk-end}
 use Rattle.stretches.proofs.Remembering.{step-pruned}
 use Rattle.stretches.proofs.walk.taken_at.Statement.{statement}
 use Rattle.stretches.proofs.walk.taken_at.Tie as tie
 
 abbrev Inv-loop : tie.InvT-loop
 Inv-loop book places masks rules tape sets scratch from left steps₀ symbols₀ set₀ end₀ rule₀ j₀ steps symbols set end rule j =
-    Scan (bookOf book) tape from j set end rule × Remembers (bookOf book) steps symbols
+    Scanned (bookOf book) tape from j set end rule × Remembers (bookOf book) steps symbols
 
 abbrev μ-loop : tie.MeasureT-loop
 μ-loop book places masks rules tape sets scratch from left steps₀ symbols₀ set₀ end₀ rule₀ j₀ steps symbols set end rule j =
@@ -21,39 +21,48 @@ abbrev μ-loop : tie.MeasureT-loop
 
 right-set-requires : tie.Need-right-set-requires Inv-loop μ-loop
 right-set-requires c κs =
-    (omega (arith, c .before .before .before .before .pre .1 .0 .scratch-room, c .before .before .before .before .pre .1 .1 .0 .0), c .before .before .before .before .pre .1 .0 .sets-room)
+    let s = c .before .before .before .before in
+    (omega (arith, s .pre .1 .0 .scratch-room, s .pre .1 .1 .0 .0), s .pre .1 .0 .sets-room)
 
-focus-first-requires : tie.Need-focus-first-requires Inv-loop μ-loop
-focus-first-requires c κs =
+first-set-requires : tie.Need-first-set-requires Inv-loop μ-loop
+first-set-requires c κs =
     c .before .before .before .before .before .pre .0 .tests
 
 loop-holds : tie.Need-loop-holds Inv-loop μ-loop
 loop-holds c =
     let s = c .before .before .before .before .before .before in
     let a = s .args in
-    let R = c .before .right-set in
-    (walk-start (a .book .now) (a .tape .now) (a .sets .now) (a .scratch .now) (s .pre .1 .0) (a .from) (a .left) (R .result) (c .focus-first .result) (s .pre .1 .1 .0 .0) (s .pre .1 .1 .0 .1) (R .ensures) (c .focus-first .ensures), s .pre .1 .1 .1)
+    let R = c .before .right-set in (
+      walk-start (a .book .now) (a .tape .now) (a .sets .now) (a .scratch .now) (s .pre .1 .0) (a .from) (a .left) (R .result) (c .first-set .result)
+          (s .pre .1 .1 .0 .0) (s .pre .1 .1 .0 .1) (R .ensures) (c .first-set .ensures),
+      s .pre .1 .1 .1,
+    )
 
 returns : tie.Need-returns Inv-loop μ-loop
 returns c =
     let s = c .before .before .before .before .before .before .before .before .before in
     let a = s .args in
-    let l = c .before .before .loop in
-    (walk-dead (a .book .now) (a .tape .now) (a .sets .now) (a .scratch .now) (s .pre .1 .0) (a .from) (l .j) (l .set) (l .end) (l .rule) (l .inv .0) (c .if1 .taken), l .inv .1)
+    let l = c .before .before .loop in (
+      walk-dead (a .book .now) (a .tape .now) (a .sets .now) (a .scratch .now) (s .pre .1 .0) (a .from) (l .j) (l .set) (l .end) (l .rule) (l .inv .0)
+          (c .if1 .taken),
+      l .inv .1,
+    )
 
 add-right-set : tie.Need-add-right-set Inv-loop μ-loop
 add-right-set c = search needs
 
 right-set-requires-2 : tie.Need-right-set-requires-2 Inv-loop μ-loop
 right-set-requires-2 c κs =
-    (omega (arith, c .before .before .before .before .before .before .before .before .before .pre .1 .0 .scratch-room), c .before .before .before .before .before .before .before .before .before .pre .1 .0 .sets-room)
+    let s = c .before .before .before .before .before .before .before .before .before in
+    (omega (arith, s .pre .1 .0 .scratch-room), s .pre .1 .0 .sets-room)
 
 shared-slice-read-remembered : tie.Need-shared-slice-read-remembered Inv-loop μ-loop
 shared-slice-read-remembered c = search needs
 
 remembered-requires : tie.Need-remembered-requires Inv-loop μ-loop
 remembered-requires c κs =
-    (c .before .before .before .before .before .before .before .before .before .before .before .before .before .pre .1 .0 .accepted, (c .before .before .before .before .before .before .before .before .before .before .before .before .before .pre .0 .placed, c .before .before .before .before .before .before .loop .inv .1))
+    let s = c .before .before .before .before .before .before .before .before .before .before .before .before .before in
+    (s .pre .1 .0 .accepted, (s .pre .0 .placed, c .before .before .before .before .before .before .loop .inv .1))
 
 add-j : tie.Need-add-j Inv-loop μ-loop
 add-j c = search needs
@@ -73,8 +82,12 @@ loop-again c =
     let R = c .before .before .before .before .before .before .right-set2 in
     let x = c .before .before .remembered in
     let r = c .before .rule-hit in
-    let X = step-pruned (a .book .now) (s .pre .1 .0 .accepted) (l .set) _ (R .result) (x .result) (x .ensures .0) in
-    (walk-hit (a .book .now) (a .tape .now) (a .sets .now) (a .scratch .now) (s .pre .1 .0) (a .from) (l .j) (l .set) (l .end) (l .rule) (l .inv .0) (c .before .before .before .before .before .before .before .before .loop-test .taken) (R .result) _ (r .result) (R .ensures) X (r .ensures) (c .if2 .taken), x .ensures .1)
+    let X = step-pruned (a .book .now) (s .pre .1 .0 .accepted) (l .set) _ (R .result) (x .result) (x .ensures .0) in (
+      walk-hit (a .book .now) (a .tape .now) (a .sets .now) (a .scratch .now) (s .pre .1 .0) (a .from) (l .j) (l .set) (l .end) (l .rule) (l .inv .0)
+          (c .before .before .before .before .before .before .before .before .loop-test .taken) (R .result) _ (r .result) (R .ensures) X (r .ensures)
+          (c .if2 .taken),
+      x .ensures .1,
+    )
 
 loop-less-2 : tie.Need-loop-less-2 Inv-loop μ-loop
 loop-less-2 c = search needs
@@ -87,15 +100,22 @@ loop-again-2 c =
     let R = c .before .before .before .before .before .before .right-set2 in
     let x = c .before .before .remembered in
     let r = c .before .rule-hit in
-    let X = step-pruned (a .book .now) (s .pre .1 .0 .accepted) (l .set) _ (R .result) (x .result) (x .ensures .0) in
-    (walk-miss (a .book .now) (a .tape .now) (a .sets .now) (a .scratch .now) (s .pre .1 .0) (a .from) (l .j) (l .set) (l .end) (l .rule) (l .inv .0) (c .before .before .before .before .before .before .before .before .loop-test .taken) (R .result) _ (r .result) (R .ensures) X (r .ensures) (c .if2 .left), x .ensures .1)
+    let X = step-pruned (a .book .now) (s .pre .1 .0 .accepted) (l .set) _ (R .result) (x .result) (x .ensures .0) in (
+      walk-miss (a .book .now) (a .tape .now) (a .sets .now) (a .scratch .now) (s .pre .1 .0) (a .from) (l .j) (l .set) (l .end) (l .rule) (l .inv .0)
+          (c .before .before .before .before .before .before .before .before .loop-test .taken) (R .result) _ (r .result) (R .ensures) X (r .ensures)
+          (c .if2 .left),
+      x .ensures .1,
+    )
 
 returns-2 : tie.Need-returns-2 Inv-loop μ-loop
 returns-2 c =
     let s = c .before .before .before .before .before .before .before .before in
     let a = s .args in
-    let l = c .before .loop in
-    (walk-end (a .book .now) (a .tape .now) (a .sets .now) (a .scratch .now) (s .pre .1 .0) (a .from) (l .j) (l .set) (l .end) (l .rule) (l .inv .0) (omega arith), l .inv .1)
+    let l = c .before .loop in (
+      walk-end (a .book .now) (a .tape .now) (a .sets .now) (a .scratch .now) (s .pre .1 .0) (a .from) (l .j) (l .set) (l .end) (l .rule) (l .inv .0)
+          (omega arith),
+      l .inv .1,
+    )
 
 pub taken-at-spec : {M : Type 1} → statement M
 taken-at-spec =
@@ -104,7 +124,7 @@ taken-at-spec =
     Inv-loop
     μ-loop
     right-set-requires
-    focus-first-requires
+    first-set-requires
     loop-holds
     returns
     add-right-set

@@ -1,10 +1,10 @@
--- `walk::opened` meets its contract, by its one test. Assumes nothing.
+-- `walk::rule_starts` meets its contract, by its one test. Assumes nothing.
 use native.Mathlib.Omega.{arith}
 use native.Mathlib.Nat.{zero-add}
 use Rattle.book.specs.Reading.{bookOf}
 use Rattle.stretches.proofs.Meets.{open-not, open-own}
-use Rattle.stretches.proofs.walk.opened.Statement.{statement}
-use Rattle.stretches.proofs.walk.opened.Tie as tie
+use Rattle.stretches.proofs.walk.rule_starts.Statement.{statement}
+use Rattle.stretches.proofs.walk.rule_starts.Tie as tie
 
 add-if1 : tie.Need-add-if1
 add-if1 c =
@@ -42,8 +42,8 @@ returns-2 c =
     let a = s .args in
     open-own (bookOf (a .book .now)) (a .rules) (a .masks .now) (s .pre .0) (a .left) (a .rule) (s .pre .1) (rw zero-add at (c .before .if1 .left))
 
-pub opened-spec : {M : Type 1} → statement M
-opened-spec =
+pub rule-starts-spec : {M : Type 1} → statement M
+rule-starts-spec =
     tie.close
     (tie.spec
     add-if1

@@ -1,4 +1,4 @@
--- `walk::focus_first` meets its contract: what the rules so far open is gathered. Assumes nothing.
+-- `walk::first_set` meets its contract: what the rules so far open is gathered. Assumes nothing.
 use Prim.Native.Nat.{_-_, _≤_}
 use mathlib.Core.Path.{_≡_}
 use native.Mathlib.Omega.{arith}
@@ -6,8 +6,8 @@ use borrow.Author.Needs.{needs}
 use Rattle.book.specs.Reading.{bookOf}
 use Rattle.sets.specs.Focus.{openedBelow}
 use Rattle.stretches.proofs.Meets.{none-first, open-start, open-turn, open-end}
-use Rattle.stretches.proofs.walk.focus_first.Statement.{statement}
-use Rattle.stretches.proofs.walk.focus_first.Tie as tie
+use Rattle.stretches.proofs.walk.first_set.Statement.{statement}
+use Rattle.stretches.proofs.walk.first_set.Tie as tie
 
 abbrev Inv-loop : tie.InvT-loop
 Inv-loop book masks rules left right out₀ rule₀ out rule = (rule ≤ rules) × (out ≡ openedBelow (bookOf book) left rule)
@@ -28,8 +28,8 @@ loop-holds c =
     let a = c .before .before .before .args in
     open-start (bookOf (a .book .now)) (a .rules) (a .masks .now) (c .before .before .before .pre) (a .left)
 
-opened-requires : tie.Need-opened-requires Inv-loop μ-loop
-opened-requires c κs =
+rule-starts-requires : tie.Need-rule-starts-requires Inv-loop μ-loop
+rule-starts-requires c κs =
     (c .before .before .before .before .before .pre, c .loop-test .taken)
 
 add-rule : tie.Need-add-rule Inv-loop μ-loop
@@ -40,18 +40,21 @@ loop-less c = search needs
 
 loop-again : tie.Need-loop-again Inv-loop μ-loop
 loop-again c =
-    let a = c .before .before .before .before .before .before .args in
+    let s = c .before .before .before .before .before .before in
+    let a = s .args in
     let l = c .before .before .loop in
-    open-turn (bookOf (a .book .now)) (a .rules) (a .masks .now) (c .before .before .before .before .before .before .pre) (a .left) (l .rule) (l .out) (c .opened .result) (l .inv) (c .before .loop-test .taken) (c .opened .ensures)
+    open-turn (bookOf (a .book .now)) (a .rules) (a .masks .now) (s .pre) (a .left) (l .rule) (l .out) (c .rule-starts .result) (l .inv)
+    (c .before .loop-test .taken) (c .rule-starts .ensures)
 
 returns-2 : tie.Need-returns-2 Inv-loop μ-loop
 returns-2 c =
-    let a = c .before .before .before .before .before .args in
+    let s = c .before .before .before .before .before in
+    let a = s .args in
     let l = c .before .loop in
-    open-end (bookOf (a .book .now)) (a .rules) (a .masks .now) (c .before .before .before .before .before .pre) (a .left) (a .right) (l .rule) (l .out) (l .inv) (omega arith)
+    open-end (bookOf (a .book .now)) (a .rules) (a .masks .now) (s .pre) (a .left) (a .right) (l .rule) (l .out) (l .inv) (omega arith)
 
-pub focus-first-spec : {M : Type 1} → statement M
-focus-first-spec =
+pub first-set-spec : {M : Type 1} → statement M
+first-set-spec =
     tie.close
     (tie.spec
     Inv-loop
@@ -59,7 +62,7 @@ focus-first-spec =
     element-copy-out-if1
     returns
     loop-holds
-    opened-requires
+    rule-starts-requires
     add-rule
     loop-less
     loop-again
