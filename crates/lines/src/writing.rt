@@ -24,7 +24,7 @@ ghost use Rattle.book.specs.Reading.{bookOf};
 ghost use Rattle.book.specs.Language.{rulesIn};
 ghost use Rattle.sets.specs.Sets.{leftAt};
 ghost use Rattle.stretches.specs.Candidates.{keep};
-ghost use Rattle.stretches.specs.Account.{verdictBy, account, lineLength, wordsIn};
+ghost use Rattle.stretches.specs.Account.{judge, verdictBy, account, lineLength, wordsIn};
 ghost use Rattle.stretches.specs.Buffers.{longestTape, onto};
 ghost use Rattle.stretches.specs.Ready.{Tests, Outlined, Ready, RightSets, Remembers};
 ghost use Rattle.stretches.specs.Position.{hits};
@@ -56,18 +56,26 @@ fn verdict_of(i: usize, j: usize, r: usize, d: Deciding) -> u16
     0
 }
 
-// The line of the candidate of rule r from i to j, where d decides; hands back where the next line begins.
-fn put_line(lines: &mut [u16], at: usize, r: usize, i: usize, j: usize, d: Deciding) -> usize
+// The words of the line of the candidate of rule r from i to j, where d decides; hands back where the next line begins.
+fn put_line(
+    lines: &mut [u16],
+    at: usize,
+    r: usize,
+    i: usize,
+    j: usize,
+    verdict: u16,
+    d: Deciding,
+) -> usize
     requires { ⌜ (r < mostRules) × (i ≤ longestTape) × (j ≤ longestTape) × DecidesBy longestTape d ⌝ }
     requires { ⌜ at + lineLength ≤ length (now lines) ⌝ }
-    ensures { λ p. ⌜ LinesPut (lineBy i j r d ∷ []) at (now (lines .entry)) p (now (lines .exit)) ⌝ }
+    ensures { λ p. ⌜ LinesPut (judge i j r verdict (d .start) (d .rule) ∷ []) at (now (lines .entry)) p (now (lines .exit)) ⌝ }
 {
-    let verdict = verdict_of(i, j, r, d);
+    let deciding = d.start;
     lines[at + LINE_RULE] = r as u16;
     lines[at + LINE_START] = i as u16;
     lines[at + LINE_END] = j as u16;
     lines[at + LINE_VERDICT] = verdict;
-    lines[at + LINE_DECIDING] = d.start as u16;
+    lines[at + LINE_DECIDING] = deciding as u16;
     at + LINE_WORDS
 }
 
@@ -90,8 +98,9 @@ fn put_if(
     requires { ⌜ LinesFit (keep (hits (bookOf (now book)) set right r) (lineBy i j r d)) at (now lines) ⌝ }
     ensures { λ p. ⌜ LinesPut (keep (hits (bookOf (now (book .entry))) set right r) (lineBy i j r d)) at (now (lines .entry)) p (now (lines .exit)) ⌝ }
 {
+    let verdict = verdict_of(i, j, r, d);
     if rule_hits(book, masks, rules, set, right, r) {
-        return put_line(lines, at, r, i, j, d);
+        return put_line(lines, at, r, i, j, verdict, d);
     }
     at
 }

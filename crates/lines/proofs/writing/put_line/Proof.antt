@@ -2,13 +2,10 @@
 use native.Mathlib.Omega.{arith}
 use borrow.Author.Needs.{needs}
 use lib.ListN.{length-set}
-use Rattle.lines.specs.Lines.{lineBy}
+use Rattle.stretches.specs.Account.{judge}
 use Rattle.lines.proofs.Written.{put-words}
 use Rattle.lines.proofs.writing.put_line.Statement.{statement}
 use Rattle.lines.proofs.writing.put_line.Tie as tie
-
-verdict-of-requires : tie.Need-verdict-of-requires
-verdict-of-requires c κs = search needs
 
 cast-lines : tie.Need-cast-lines
 cast-lines c = search needs
@@ -79,15 +76,13 @@ same-length c = search needs
 
 returns : tie.Need-returns
 returns c =
-    let s = c .before .before .before in
-    let a = s .args in
-    rw (c .before .verdict-of .ensures) (put-words (lineBy (a .i) (a .j) (a .r) (a .d)) (a .lines .now) (a .at) (s .pre .1))
+    let a = c .args in
+    put-words (judge (a .i) (a .j) (a .r) (a .verdict) (a .d .start) (a .d .rule)) (a .lines .now) (a .at) (c .pre .1)
 
 pub put-line-spec : {M : Type 1} → statement M
 put-line-spec =
     tie.close
     (tie.spec
-    verdict-of-requires
     cast-lines
     add-lines
     mul-lines
