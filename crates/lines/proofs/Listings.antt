@@ -81,8 +81,7 @@ module _ (book t rows sets scratch l₀ : List ℕ) (ready : Ready book t rows s
   accounting-start h = record {
     within = omega arith;
     written =
-        subst (Written (account R t) l₀ 0 l₀ 0) (from-all R t (linesAt R t))
-        (written-start (account R t) l₀ 0 (omega arith));
+        subst (Written (account R t) l₀ 0 l₀ 0) (from-all R t (linesAt R t)) (written-start (account R t) l₀ 0 (omega arith));
     next = deciding-start R t;
     left = left-start book t rows sets scratch ready;
   }
@@ -103,8 +102,7 @@ module _ (book t rows sets scratch l₀ : List ℕ) (ready : Ready book t rows s
 
         pub accounting-room : LinesFit (startLines R t i d) at l
         accounting-room =
-            written-room (account R t) l₀ 0 l at (lineFrom i) (was .written)
-            (startLines R t i d) (lineFrom (suc i)) step
+            written-room (account R t) l₀ 0 l at (lineFrom i) (was .written) (startLines R t i d) (lineFrom (suc i)) step
 
         pub accounting-turn : (at′ k′ : ℕ) (l′ : List ℕ) → LinesPut (startLines R t i d) at l at′ l′ → k′ ≡ leftEntry rows k (getD t i 0)
             → Accounting book t sets l₀ l′ at′ d k′ (i + 1)

@@ -203,46 +203,54 @@ pub record Listed (book t : List ℕ) (i : ℕ) (d : Deciding) (l₀ l : List �
   pub written : Written (startLines (rulesIn book) t i d) l₀ at l p (pastEnd (rulesIn book) t i d j)
 
 module _ (book t sets scratch : List ℕ) (seen : RightSets book t sets scratch) (i : ℕ) (d : Deciding) where
-  pub listed-start : (L R F : ℕ) (l : List ℕ) (at : ℕ) → i ≤ length t → L ≡ leftAt (bookOf book) t i → R ≡ rightSet sets (getD scratch i 0)
-      → F ≡ focusFirst (bookOf book) L R
-      → LinesFit (startLines (rulesIn book) t i d) at l → Listed book t i d l l at at i F
+  abbrev b : Book
+  b = bookOf book
+
+  abbrev whole : List Line
+  whole = startLines (rulesIn book) t i d
+
+  abbrev rest : ℕ → List Line
+  rest = pastEnd (rulesIn book) t i d
+
+  pub listed-start : (L R F : ℕ) (l : List ℕ) (at : ℕ) → i ≤ length t → L ≡ leftAt b t i → R ≡ rightSet sets (getD scratch i 0)
+      → F ≡ focusFirst b L R → LinesFit whole at l → Listed book t i d l l at at i F
   listed-start L R F l at k e f g h = record {
     walk = pruned-start book t sets scratch seen i L R F k e f g;
     written =
-        subst (Written (startLines (rulesIn book) t i d) l at l at) (end-start (rulesIn book) t i d (no-empty book (seen .accepted)) k)
-        (written-start (startLines (rulesIn book) t i d) l at h);
+        subst (Written whole l at l at) (end-start (rulesIn book) t i d (no-empty book (seen .accepted)) k) (written-start whole l at h);
   }
 
   module _ (l₀ l : List ℕ) (at p j set : ℕ) (was : Listed book t i d l₀ l at p j set) where
-    module _ (inside : j < length t) (R X : ℕ) (e : R ≡ rightSet sets (getD scratch (j + 1) 0)) (f : X ≡ focusNext (bookOf book) set (getD t j 0) R) where
-      lines-are : hitLines (bookOf book) X R i (j + 1) d ≡ endLines (rulesIn book) t i d (suc j)
+    module _ (inside : j < length t) (R X : ℕ) (e : R ≡ rightSet sets (getD scratch (j + 1) 0)) (f : X ≡ focusNext b set (getD t j 0) R) where
+      abbrev here : List Line
+      here = hitLines b X R i (j + 1) d
+
+      lines-are : here ≡ endLines (rulesIn book) t i d (suc j)
       unfolding hitLines
       lines-are =
-          rw add-one (each-same (λ (r : ℕ). keep (hits (bookOf book) X R r) (lineBy i (suc j) r d))
-          (λ (r : ℕ). keep (candidate (rulesIn book) t i (suc j) r) (lineBy i (suc j) r d)) 0 (length (bookOf book .words))
+          rw add-one (each-same (λ (r : ℕ). keep (hits b X R r) (lineBy i (suc j) r d))
+          (λ (r : ℕ). keep (candidate (rulesIn book) t i (suc j) r) (lineBy i (suc j) r d)) 0 (length (b .words))
           (λ r h k. ap (λ (c : Bool). keep c (lineBy i (suc j) r d)) (pruned-hits book t sets scratch seen i j set (was .walk) inside R X e f r)))
 
-      step : pastEnd (rulesIn book) t i d j ≡ hitLines (bookOf book) X R i (j + 1) d ++ pastEnd (rulesIn book) t i d (suc j)
-      step = end-turn (rulesIn book) t i d j inside ∙ ap (λ (x : List Line). x ++ pastEnd (rulesIn book) t i d (suc j)) (sym lines-are)
+      step : rest j ≡ here ++ rest (suc j)
+      step = end-turn (rulesIn book) t i d j inside ∙ ap (λ (x : List Line). x ++ rest (suc j)) (sym lines-are)
 
-      pub listed-room : LinesFit (hitLines (bookOf book) X R i (j + 1) d) p l
+      pub listed-room : LinesFit here p l
       listed-room =
-          written-room (startLines (rulesIn book) t i d) l₀ at l p (pastEnd (rulesIn book) t i d j) (was .written) (hitLines (bookOf book) X R i (j + 1) d)
-          (pastEnd (rulesIn book) t i d (suc j)) step
+          written-room whole l₀ at l p (rest j) (was .written) here (rest (suc j)) step
 
-      pub listed-turn : (p′ : ℕ) (l′ : List ℕ) → LinesPut (hitLines (bookOf book) X R i (j + 1) d) p l p′ l′ → Listed book t i d l₀ l′ at p′ (j + 1) X
+      pub listed-turn : (p′ : ℕ) (l′ : List ℕ) → LinesPut here p l p′ l′ → Listed book t i d l₀ l′ at p′ (j + 1) X
       listed-turn p′ l′ did = record {
         walk = pruned-turn book t sets scratch seen i j set (was .walk) inside R X e f;
         written =
-            rw add-one (written-turn (startLines (rulesIn book) t i d) l₀ at l p (pastEnd (rulesIn book) t i d j) (was .written)
-            (hitLines (bookOf book) X R i (j + 1) d) (pastEnd (rulesIn book) t i d (suc j)) step p′ l′ did);
+            rw add-one (written-turn whole l₀ at l p (rest j) (was .written) here (rest (suc j)) step p′ l′ did);
       }
 
-    done : pastEnd (rulesIn book) t i d j ≡ [] → LinesPut (startLines (rulesIn book) t i d) at l₀ p l
-    done = written-end (startLines (rulesIn book) t i d) l₀ at l p (pastEnd (rulesIn book) t i d j) (was .written)
+    done : rest j ≡ [] → LinesPut whole at l₀ p l
+    done = written-end whole l₀ at l p (rest j) (was .written)
 
-    pub listed-dead : set ≡ 0 → LinesPut (startLines (rulesIn book) t i d) at l₀ p l
+    pub listed-dead : set ≡ 0 → LinesPut whole at l₀ p l
     listed-dead z = done (end-rest (rulesIn book) t i d j (pruned-dead book t sets scratch seen i j set (was .walk) z))
 
-    pub listed-end : length t ≤ j → LinesPut (startLines (rulesIn book) t i d) at l₀ p l
+    pub listed-end : length t ≤ j → LinesPut whole at l₀ p l
     listed-end h = done (end-end (rulesIn book) t i d j h)
