@@ -160,4 +160,5 @@ module _ (b : Rules) (tape lines : List ℕ) where
   unfolding linesDef
   lines-kept =
       by-test (λ (x : AfterLines). length (x .lines) ≡ length lines) (leb (wordsNeeded b tape) (length lines)) _ _
-      (λ e. onto-length (wordsIn (account b tape)) lines (omega (arith, leb-true (wordsNeeded b tape) (length lines) e, words-length (account b tape)))) (λ e. refl)
+      (λ e. onto-length (wordsIn (account b tape)) lines (omega (arith, leb-true (wordsNeeded b tape) (length lines) e, words-length (account b tape))))
+      (λ e. refl)
