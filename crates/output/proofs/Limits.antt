@@ -25,7 +25,8 @@ use Rattle.stretches.proofs.Lengths.{marks-length}
 use Rattle.stretches.proofs.NoEmpty.{NoEmpty, no-empty}
 use Rattle.book.proofs.Claims.{sound as sound-of}
 use Rattle.stretches.proofs.Walks.{longest-low}
-use Rattle.stretches.proofs.Along.{from, At, at-start, at-turn, marks-step, takes-step, marks-all, takes-all, marks-in, marks-keep, marks-word, marks-last, takes-last}
+use Rattle.stretches.proofs.Along.{from, At, at-start, at-turn, takes-step, takes-all, takes-last}
+use Rattle.stretches.proofs.Along.{marks-step, marks-all, marks-in, marks-keep, marks-word, marks-last}
 
 -- ---- the lengths of words
 
@@ -56,7 +57,9 @@ module _ (b : Rules) where
 
   most-limit : (m : ℕ) → 1 ≤ m → ((r : ℕ) → r < length (b .words) → length (ruleWord b r) ≤ m) → mostMarks b ≤ m
   unfolding mostMarks
-  most-limit m h f = greatest-most (map length (b .words)) 1 m h (λ r k. let z = f r (omega (arith, lengths-many (b .words))) in omega (arith, lengths-at (b .words) r))
+  most-limit m h f =
+      greatest-most (map length (b .words)) 1 m h
+      (λ r k. let z = f r (omega (arith, lengths-many (b .words))) in omega (arith, lengths-at (b .words) r))
 
 -- the longest word among the rules below r, or 1
 abbrev pub Longest : List ℕ → ℕ → ℕ → Type 0
@@ -65,7 +68,8 @@ Longest book most r = Topped 1 (map length (bookOf book .words)) most r
 pub longest-start : (book : List ℕ) → Longest book 1 0
 longest-start book = topped-start 1 (map length (bookOf book .words))
 
-module _ (book places : List ℕ) (stand : WordsAt book (bookOf book .words) places) (n : ℕ) (many : n ≡ length (bookOf book .words)) (most r : ℕ) (was : Longest book most r) where
+module _ (book places : List ℕ) (stand : WordsAt book (bookOf book .words) places) (n : ℕ) (many : n ≡ length (bookOf book .words)) (most r : ℕ)
+    (was : Longest book most r) where
   module _ (inside : r < n) (x : ℕ) (e : x ≡ length (wordAt book (getD places r 0))) where
     below : r < length (map length (bookOf book .words))
     below = omega (arith, lengths-many (bookOf book .words))
@@ -129,13 +133,21 @@ module _ (b : Rules) (t : List ℕ) where
 module _ (book t rows sets scratch : List ℕ) (ready : Ready book t rows sets scratch) where
   module _ (m : ℕ) (e : m ≡ mostMarks (rulesIn book)) where
     pub output-most : length (rewriting (rulesIn book) t) ≤ length t * m
-    output-most = rw e (omega (arith, ap length (marks-all (rulesIn book) t), marks-from (rulesIn book) t (no-empty book (ready .accepted)) (length t) 0 0 (omega arith) (at-start (rulesIn book) t)))
+    output-most =
+        let b = rulesIn book in
+        let most = marks-from b t (no-empty book (ready .accepted)) (length t) 0 0 (omega arith) (at-start b t) in
+        rw e (omega (arith, ap length (marks-all b t), most))
 
     pub most-fits : length t * m ≤ longestTape * longestWord
-    most-fits = rw e (mul-le-mul (ready .tape-fits) (most-limit (rulesIn book) longestWord (omega arith) (λ r h. sound-of book (ready .accepted) .word r h .short)))
+    most-fits =
+        rw e (mul-le-mul (ready .tape-fits) (most-limit (rulesIn book) longestWord (omega arith)
+        (λ r h. sound-of book (ready .accepted) .word r h .short)))
 
   pub output-fits : length (rewriting (rulesIn book) t) ≤ longestTape * longestWord
   output-fits = omega (arith, output-most (mostMarks (rulesIn book)) refl, most-fits (mostMarks (rulesIn book)) refl)
 
   pub taken-most : length (taken (rulesIn book) t) ≤ length t
-  taken-most = omega (arith, ap length (takes-all (rulesIn book) t), takes-from (rulesIn book) t (no-empty book (ready .accepted)) (length t) 0 0 (omega arith) (at-start (rulesIn book) t))
+  taken-most =
+      let b = rulesIn book in
+      let most = takes-from b t (no-empty book (ready .accepted)) (length t) 0 0 (omega arith) (at-start b t) in
+      omega (arith, ap length (takes-all b t), most)

@@ -6,7 +6,7 @@ use native.Mathlib.Omega.{arith}
 use native.Mathlib.Numerals.{add-one}
 use lib.ListN.{length, getD, take, drop, set}
 use lib.Seq.{getD-take, getD-drop, drop-cons, drop-length}
-use Rattle.book.specs.Format.{byte}
+use Rattle.book.specs.Format.{lengthAt, symbolsAt, byte}
 use Rattle.book.specs.Reading.{wordAt}
 use Rattle.book.specs.Outline.{WordRoom}
 use Rattle.book.proofs.Placing.{word-length}
@@ -38,8 +38,10 @@ origin-at (x ∷ w) i (suc k) h = origin-at w i k (omega arith)
 -- ---- the word in the record at p
 
 module _ (book : List ℕ) (p : ℕ) (r : WordRoom book p) where
-  word-symbol : (k : ℕ) → k < length (wordAt book p) → getD book (p + 2 + k) 0 ≡ getD (wordAt book p) k 0
-  word-symbol k h = sym (getD-take (byte book (p + 1)) (drop (p + 2) book) k 0 (omega (arith, word-length book p r)) ∙ getD-drop (p + 2) book k 0)
+  word-symbol : (k : ℕ) → k < length (wordAt book p) → getD book (p + symbolsAt + k) 0 ≡ getD (wordAt book p) k 0
+  word-symbol k h =
+      sym (getD-take (byte book (p + lengthAt)) (drop (p + symbolsAt) book) k 0 (omega (arith, word-length book p r))
+      ∙ getD-drop (p + symbolsAt) book k 0)
 
 -- one element more of a buffer that is filled from the front
 front-set : (l₀ l : List ℕ) (at x : ℕ) (more whole : List ℕ) → at < length l → Front l₀ l at (x ∷ more) whole → Front l₀ (set l at x) (at + 1) more whole
@@ -95,8 +97,11 @@ module _ (w : List ℕ) (i : ℕ) where
     }
       where
         fin : (l₀ l v : List ℕ) → at ≤ length l₀ → k ≡ length v → Front l₀ l (at + k) (drop k v) (take at l₀ ++ v) → l ≡ put l₀ at v
-        fin l₀ l v g q f = front-finish l₀ l v at (at + k) g (subst (λ (m : List ℕ). Front l₀ l (at + k) m (take at l₀ ++ v)) (ap (λ (m : ℕ). drop m v) q ∙ drop-length v) f) .1
+        fin l₀ l v g q f =
+            let e = ap (λ (m : ℕ). drop m v) q ∙ drop-length v in
+            front-finish l₀ l v at (at + k) g (subst (λ (m : List ℕ). Front l₀ l (at + k) m (take at l₀ ++ v)) e f) .1
 
 -- the next symbol of a word, as the code reads it
-pub spelling-read : (book : List ℕ) (p k n : ℕ) → WordRoom book p → n ≡ length (wordAt book p) → k < n → getD book (p + 2 + k) 0 ≡ getD (wordAt book p) k 0
+pub spelling-read : (book : List ℕ) (p k n : ℕ) → WordRoom book p → n ≡ length (wordAt book p) → k < n
+    → getD book (p + symbolsAt + k) 0 ≡ getD (wordAt book p) k 0
 spelling-read book p k n r e h = word-symbol book p r k (omega arith)

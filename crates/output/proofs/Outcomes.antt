@@ -1,5 +1,5 @@
--- One tape after a build: its two outcomes, as the code answers. The laws of the definition that callers cite are those of
--- crates/rewriter/proofs/Tapes.antt. Assumes nothing.
+-- One tape after a build: its two outcomes, as the code answers. The laws of the definition that callers cite are those of Tapes.antt.
+-- Assumes nothing.
 use Prim.Native.Nat.{ℕ, min, _≤_, _<_}
 use mathlib.Core.Path.{_≡_, sym, _∙_}
 use mathlib.Core.Logic.{_≢_, by-cases}
@@ -35,34 +35,36 @@ module _ (b : Rules) (t : List ℕ) (room : ℕ) where
 
 module _ (b : Rules) (t out org : List ℕ) where
   -- the two outcomes
-  abbrev pub accepted : AfterTape
+  abbrev accepted : AfterTape
   accepted =
       tapeLeaves (record { reply = 0; place = 0; length = length (rewriting b t); taken = length (taken b t) })
       (onto (symbolsOf (rewriting b t)) out) (onto (originsOf (rewriting b t)) org)
 
-  abbrev pub refused : AfterTape
+  abbrev refused : AfterTape
   refused = tapeLeaves (record { reply = 15; place = length (rewriting b t); length = 0; taken = 0 }) out org
 
-  pub tape-accepted : length (rewriting b t) ≤ length out → length (rewriting b t) ≤ length org → tapeDef b t out org ≡ accepted
+  tape-accepted : length (rewriting b t) ≤ length out → length (rewriting b t) ≤ length org → tapeDef b t out org ≡ accepted
   unfolding tapeDef
   tape-accepted g h = simp (le-leb _ _ g, le-leb _ _ h)
 
-  pub short-out : length out < length (rewriting b t) → tapeDef b t out org ≡ refused
+  short-out : length out < length (rewriting b t) → tapeDef b t out org ≡ refused
   unfolding tapeDef
   short-out h = simp (lt-leb _ _ h)
 
-  pub short-origins : length org < length (rewriting b t) → tapeDef b t out org ≡ refused
+  short-origins : length org < length (rewriting b t) → tapeDef b t out org ≡ refused
   unfolding tapeDef
   short-origins h = simp (lt-leb _ _ h, B.and-false)
 
   -- as the code answers
-  pub tape-done : (n k : ℕ) (out′ org′ : List ℕ) → Sized b t n k → n ≤ length out → n ≤ length org → out′ ≡ onto (symbolsOf (rewriting b t)) out → org′ ≡ onto (originsOf (rewriting b t)) org
+  pub tape-done : (n k : ℕ) (out′ org′ : List ℕ) → Sized b t n k → n ≤ length out → n ≤ length org
+      → out′ ≡ onto (symbolsOf (rewriting b t)) out → org′ ≡ onto (originsOf (rewriting b t)) org
       → tapeLeaves (record { reply = 0; place = 0; length = n; taken = k }) out′ org′ ≡ tapeDef b t out org
   tape-done n k out′ org′ s g h e f =
       (λ x. tapeLeaves (record { reply = 0; place = 0; length = s .lens x; taken = s .many x }) (e x) (f x))
       ∙ sym (tape-accepted (omega (arith, s .lens)) (omega (arith, s .lens)))
 
-  pub tape-no-room : (n : ℕ) (r : Rewritten) → n ≡ neededPast b t (min (length out) (length org)) → n ≢ 0 → r ≡ record { reply = 15; place = n; length = 0; taken = 0 }
+  pub tape-no-room : (n : ℕ) (r : Rewritten) → n ≡ neededPast b t (min (length out) (length org)) → n ≢ 0
+      → r ≡ record { reply = 15; place = n; length = 0; taken = 0 }
       → tapeLeaves r out org ≡ tapeDef b t out org
   tape-no-room n r e h f =
       let z = needed-some b t (min (length out) (length org)) (λ q. h (e ∙ q)) in

@@ -1,5 +1,5 @@
 -- The three things that one position can do: it is inside a stretch, is kept, or begins a stretch, whose word stands for it. What each adds to
--- the counts, and what each does to the outputs. Assumes nothing.
+-- the length, and what each does to the outputs and to the number of stretches taken. Assumes nothing.
 use Prim.Native.Nat.{ℕ, _+_, _≤_, _<_}
 use native.Mathlib.Omega.{arith}
 use mathlib.Core.Path.{_≡_, refl, sym, _∙_, ap}
@@ -15,7 +15,7 @@ use Rattle.stretches.specs.Output.{wordMarks, ruleWord, symbolsOf, originsOf}
 use Rattle.book.specs.Outline.{WordAt, WordsAt}
 use Rattle.stretches.specs.Ready.{allStarts, Tests, RightSets}
 use Rattle.stretches.specs.Position.{TakenHere, marksAt}
-use Rattle.output.specs.Passes.{Shared, WordPut, KeptPut, Room, MarksPut}
+use Rattle.output.specs.Passes.{Shared, WordPut, KeptPut, MarksFit, MarksPut}
 use Rattle.stretches.specs.Lists.{put}
 use Rattle.stretches.proofs.Walks.{longest-low, some-far}
 use Rattle.stretches.proofs.Stretches.{rule-first}
@@ -29,18 +29,18 @@ use Rattle.stretches.proofs.Along.{marks-in, takes-in, end-in, end-new, marks-k
 
 -- inside a stretch
 module _ (book t : List ℕ) (i end : ℕ) (h : i < end) where
-  pub shared-in : (at taken : ℕ) → Shared (rulesIn book) t i at end taken at end taken
-  shared-in at taken = record {
+  pub shared-in : (at : ℕ) → Shared (rulesIn book) t i at end at end
+  shared-in at = record {
     ends = end-in (rulesIn book) t i end h;
     next = omega (arith, ap length (marks-in (rulesIn book) t i end h));
-    many = omega (arith, ap length (takes-in (rulesIn book) t i end h));
   }
 
   pub put-in : (at taken : ℕ) (out org : List ℕ) → MarksPut (rulesIn book) t i at end taken out org at end taken out org
   put-in at taken out org =
       let e = marks-in (rulesIn book) t i end h in
       record {
-        share = shared-in at taken;
+        share = shared-in at;
+        many = omega (arith, ap length (takes-in (rulesIn book) t i end h));
         outs = rw e (put-nil out at);
         orgs = rw e (put-nil org at);
       }
@@ -50,10 +50,12 @@ pub takes-nothing : (book tape sets scratch masks : List ℕ) (n i R : ℕ) → 
     → R ≡ getD sets (mostSets + getD scratch i 0) 0 → bitAnd R (getD masks allStarts 0) ≡ 0 → TakenHere (rulesIn book) tape i i 0
 takes-nothing book tape sets scratch masks n i R m seen h e z =
     let L = leftAt (bookOf book) tape i in
-    walk-dead book tape sets scratch seen i i 0 i 0 (walk-start book tape sets scratch seen i L R 0 h refl e (none-first (bookOf book) n masks m L R z)) refl
+    walk-dead book tape sets scratch seen i i 0 i 0
+    (walk-start book tape sets scratch seen i L R 0 h refl e (none-first (bookOf book) n masks m L R z)) refl
 
 -- a free position
-module _ (book : List ℕ) (ok : checkDef book .reply ≡ 0) (t : List ℕ) (i end : ℕ) (new : end ≤ i) (stop rule : ℕ) (took : TakenHere (rulesIn book) t i stop rule) where
+module _ (book : List ℕ) (ok : checkDef book .reply ≡ 0) (t : List ℕ) (i end : ℕ) (new : end ≤ i) (stop rule : ℕ)
+    (took : TakenHere (rulesIn book) t i stop rule) where
   none : NoEmpty (rulesIn book)
   none = no-empty book ok
 
@@ -65,22 +67,22 @@ module _ (book : List ℕ) (ok : checkDef book .reply ≡ 0) (t : List ℕ) (i e
     keeps : marksAt (rulesIn book) t i end ≡ record { symbol = getD t i 0; origin = i } ∷ []
     keeps = marks-keep (rulesIn book) t none i end new alone
 
-    pub shared-keep : (at taken : ℕ) → Shared (rulesIn book) t i at end taken (at + 1) i taken
-    shared-keep at taken = record {
+    pub shared-keep : (at : ℕ) → Shared (rulesIn book) t i at end (at + 1) i
+    shared-keep at = record {
       ends = sym alone ∙ end-new (rulesIn book) t i end new;
       next = omega (arith, ap length keeps);
-      many = omega (arith, ap length (takes-none (rulesIn book) t none i end new alone));
     }
 
-    pub keep-room : (at : ℕ) (out org : List ℕ) → Room (rulesIn book) t i at end out org → (at < length out) × (at < length org)
-    keep-room at out org r = (omega (arith, r .outs, ap length keeps), omega (arith, r .orgs, ap length keeps))
+    pub kept-fits : (at : ℕ) (out org : List ℕ) → MarksFit (rulesIn book) t i at end out org → (at < length out) × (at < length org)
+    kept-fits at out org r = (omega (arith, r .outs, ap length keeps), omega (arith, r .orgs, ap length keeps))
 
-    pub put-keep : (at taken : ℕ) (out org : List ℕ) → Room (rulesIn book) t i at end out org → (at′ end′ taken′ : ℕ) (out′ org′ : List ℕ) → KeptPut (getD t i 0) i at taken out org at′ end′ taken′ out′ org′
-        → MarksPut (rulesIn book) t i at end taken out org at′ end′ taken′ out′ org′
+    pub put-keep : (at taken : ℕ) (out org : List ℕ) → MarksFit (rulesIn book) t i at end out org → (at′ end′ taken′ : ℕ) (out′ org′ : List ℕ)
+        → KeptPut (getD t i 0) i at taken out org at′ end′ taken′ out′ org′ → MarksPut (rulesIn book) t i at end taken out org at′ end′ taken′ out′ org′
     put-keep at taken out org r at′ end′ taken′ out′ org′ p = record {
-      share = rw (p .next, p .ends, p .many) (shared-keep at taken);
-      outs = p .outs ∙ rw keeps (put-one out at (getD t i 0) (keep-room at out org r .0));
-      orgs = p .orgs ∙ rw keeps (put-one org at i (keep-room at out org r .1));
+      share = rw (p .next, p .ends) (shared-keep at);
+      many = omega (arith, p .many, ap length (takes-none (rulesIn book) t none i end new alone));
+      outs = p .outs ∙ rw keeps (put-one out at (getD t i 0) (kept-fits at out org r .0));
+      orgs = p .orgs ∙ rw keeps (put-one org at i (kept-fits at out org r .1));
     }
 
   -- a stretch is taken
@@ -95,7 +97,9 @@ module _ (book : List ℕ) (ok : checkDef book .reply ≡ 0) (t : List ℕ) (i e
     far-rule = took .who ∙ ap (ruleOf (rulesIn book) t i) (took .far)
 
     pub known-rule : rule < length (bookOf book .words)
-    known-rule = let f = rule-first (rulesIn book) t i (longest (rulesIn book) t i) (some-far (rulesIn book) t i past) in omega (arith, far-rule, f .high)
+    known-rule =
+        let f = rule-first (rulesIn book) t i (longest (rulesIn book) t i) (some-far (rulesIn book) t i past) in
+        omega (arith, far-rule, f .high)
 
     pub stands : WordAt book (getD (bookOf book .words) rule []) (getD words rule 0)
     stands = stand rule known-rule
@@ -109,21 +113,22 @@ module _ (book : List ℕ) (ok : checkDef book .reply ≡ 0) (t : List ℕ) (i e
     marks-many : length (marksAt (rulesIn book) t i end) ≡ length (wordAt book (getD words rule 0))
     marks-many = ap length marks-are ∙ marks-length (wordAt book (getD words rule 0)) i
 
-    pub shared-word : (at taken at′ : ℕ) → at′ ≡ at + length (wordAt book (getD words rule 0)) → Shared (rulesIn book) t i at end taken at′ stop (taken + 1)
-    shared-word at taken at′ e = record {
+    pub shared-word : (at at′ : ℕ) → at′ ≡ at + length (wordAt book (getD words rule 0)) → Shared (rulesIn book) t i at end at′ stop
+    shared-word at at′ e = record {
       ends = took .far ∙ end-new (rulesIn book) t i end new;
       next = omega (arith, e, marks-many);
-      many = omega (arith, takes-one (rulesIn book) t none i end new past);
     }
 
-    pub word-room : (at : ℕ) (out org : List ℕ) → Room (rulesIn book) t i at end out org
+    pub word-fits : (at : ℕ) (out org : List ℕ) → MarksFit (rulesIn book) t i at end out org
         → (at + length (wordAt book (getD words rule 0)) ≤ length out) × (at + length (wordAt book (getD words rule 0)) ≤ length org)
-    word-room at out org r = (omega (arith, r .outs, marks-many), omega (arith, r .orgs, marks-many))
+    word-fits at out org r = (omega (arith, r .outs, marks-many), omega (arith, r .orgs, marks-many))
 
-    pub put-replace : (at taken : ℕ) (out org : List ℕ) (at′ : ℕ) (out′ org′ : List ℕ) → WordPut (wordAt book (getD words rule 0)) i at out org at′ out′ org′
+    pub put-replace : (at taken : ℕ) (out org : List ℕ) (at′ : ℕ) (out′ org′ : List ℕ)
+        → WordPut (wordAt book (getD words rule 0)) i at out org at′ out′ org′
         → MarksPut (rulesIn book) t i at end taken out org at′ stop (taken + 1) out′ org′
     put-replace at taken out org at′ out′ org′ p = record {
-      share = shared-word at taken at′ (p .next);
+      share = shared-word at at′ (p .next);
+      many = omega (arith, takes-one (rulesIn book) t none i end new past);
       outs = p .outs ∙ ap (put out at) (sym (ap symbolsOf marks-are ∙ symbols-marks (wordAt book (getD words rule 0)) i));
       orgs = p .orgs ∙ ap (put org at) (sym (ap originsOf marks-are));
     }

@@ -12,11 +12,10 @@ use Rattle.stretches.specs.Output.{marks, rewriting, symbolsOf, originsOf}
 use Rattle.stretches.specs.Position.{marksAt, takesAt, endNext}
 use Rattle.stretches.specs.Lists.{put, greatest}
 
--- the counts after i, from those before it: the output's length and the stretches taken; and where the last stretch ends
-pub record Shared (b : Rules) (t : List ℕ) (i at end taken at′ end′ taken′ : ℕ) : Type 0 where
+-- the output's length after i, from that before it, and where the last stretch ends
+pub record Shared (b : Rules) (t : List ℕ) (i at end at′ end′ : ℕ) : Type 0 where
   pub ends : end′ ≡ endNext b t i end
   pub next : at′ ≡ at + length (marksAt b t i end)
-  pub many : taken′ ≡ taken + length (takesAt b t i end)
 
 -- no more symbols than these stand for one position: those of the longest word, or the one that is kept
 unfoldable pub mostMarks : Rules → ℕ
@@ -46,12 +45,13 @@ pub record KeptPut (x i at taken : ℕ) (out₀ org₀ : List ℕ) (at′ end′
   pub orgs : org ≡ set org₀ at i
 
 -- what is written at i fits both buffers from `at` on
-pub record Room (b : Rules) (t : List ℕ) (i at end : ℕ) (out org : List ℕ) : Type 0 where
+pub record MarksFit (b : Rules) (t : List ℕ) (i at end : ℕ) (out org : List ℕ) : Type 0 where
   pub outs : at + length (marksAt b t i end) ≤ length out
   pub orgs : at + length (marksAt b t i end) ≤ length org
 
--- what i does to both, and to the counts
+-- what i does to both, and to the length and the number of stretches taken
 pub record MarksPut (b : Rules) (t : List ℕ) (i at end taken : ℕ) (out₀ org₀ : List ℕ) (at′ end′ taken′ : ℕ) (out org : List ℕ) : Type 0 where
-  pub share : Shared b t i at end taken at′ end′ taken′
+  pub share : Shared b t i at end at′ end′
+  pub many : taken′ ≡ taken + length (takesAt b t i end)
   pub outs : out ≡ put out₀ at (symbolsOf (marksAt b t i end))
   pub orgs : org ≡ put org₀ at (originsOf (marksAt b t i end))

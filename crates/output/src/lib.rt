@@ -1,7 +1,7 @@
 // REWRITE's forward passes over one tape.
 use crate::passes::forward;
-use crate::passes::longest_word;
 use crate::passes::measure;
+use crate::words::longest_word;
 use book::outline::place_rules;
 use stretches::outline::MASKS;
 use stretches::outline::outline_of;
@@ -15,12 +15,17 @@ ghost use Rattle.stretches.specs.Ready.{Lent, Ready};
 ghost use Rattle.output.specs.Passes.{neededPast};
 
 mod passes; // passes.rt: measuring and writing the output, position after position
+mod words; // words.rt: the words of the rules, read from their records
 
-// REWRITE's answer: the output's length, and the number of stretches taken.
+// REWRITE's answer.
 pub struct Rewritten {
+    // 0 for accepted, else the refusal's number, 1 to 15: callers test it before they read any buffer.
     pub reply: u8,
+    // Where the refusal arose: an offset of the book, a position of the tape, or with 15 the symbols needed; 0 for accepted.
     pub place: usize,
+    // How many symbols, and origins, stand at the front of both outputs: at most the length of each; 0 on a refusal.
     pub length: usize,
+    // How many stretches were taken, at most one a symbol of the tape; 0 on a refusal.
     pub taken: usize,
 }
 
@@ -66,8 +71,7 @@ fn needed(
     if tape.len() * longest_word(book, words, rules) <= room {
         return 0;
     }
-    let size = measure(book, places, masks, words, rules, tape, rows, sets, scratch);
-    let length = size.length;
+    let length = measure(book, places, masks, words, rules, tape, rows, sets, scratch);
     if length <= room {
         return 0;
     }

@@ -1,5 +1,6 @@
 // The output, position after position: its symbol is passed over inside a taken stretch, kept, or replaced by the word of a rule. Where it may
 // not fit it is measured before the first write, so that a refusal leaves the outputs as they were.
+use crate::words::put_word;
 use book::outline::word_length;
 use sets::entries::left_entry;
 use sets::entries::right_set;
@@ -9,74 +10,22 @@ use stretches::steps::SLOTS;
 use stretches::steps::STEPS;
 use stretches::walk::taken_at;
 ghost use mathlib.Core.Path.{_≡_};
-ghost use Prim.Native.Nat.{_+_, _≤_, _<_};
+ghost use Prim.Native.Nat.{_≤_, _<_};
 ghost use lib.ListN.{length, getD};
-ghost use Rattle.book.specs.Format.{mostRules};
-ghost use Rattle.book.specs.Reading.{wordAt, bookOf};
+ghost use Rattle.book.specs.Reading.{bookOf};
 ghost use Rattle.book.specs.Language.{rulesIn};
-ghost use Rattle.book.specs.Outline.{WordRoom, WordsAt};
 ghost use Rattle.sets.specs.Sets.{leftAt};
 ghost use Rattle.stretches.specs.Buffers.{longestTape, onto};
 ghost use Rattle.stretches.specs.Output.{rewriting, symbolsOf, originsOf};
 ghost use Rattle.stretches.specs.Ready.{Lent, Ready, RightSets, Remembers};
-ghost use Rattle.output.specs.Passes.{mostMarks, Shared, Sized, WordPut, KeptPut, Room, MarksPut};
+ghost use Rattle.output.specs.Passes.{Shared, Sized, KeptPut, MarksFit, MarksPut};
 
-// No more symbols than these stand for one position: those of the longest word, or the one that is kept.
-pub(crate) fn longest_word(book: &[u8], words: &[u16; book::RULES], rules: usize) -> usize
-    requires { ⌜ (rules ≡ length (bookOf (now book) .words)) × (rules ≤ mostRules) ⌝ }
-    requires { ⌜ WordsAt (now book) (bookOf (now book) .words) (now words) ⌝ }
-    ensures { λ r. ⌜ r ≡ mostMarks (rulesIn (now (book .entry))) ⌝ }
-{
-    let mut most = 1;
-    let mut r = 0;
-    while r < rules {
-        let n = word_length(book, words[r] as usize);
-        r += 1;
-        if most < n {
-            most = n;
-        }
-    }
-    most
-}
-
-// "every symbol of a replacement the start of the stretch"
-fn word_origin(start: usize) -> u16
-    requires { ⌜ start ≤ longestTape ⌝ }
-    ensures { λ r. ⌜ r ≡ start ⌝ }
-{
-    start as u16
-}
-
-// Writes the word in the rule's record at `from`, and its origins, from `at` on; hands back where the next symbol is written.
-fn put_word(
-    book: &[u8],
-    from: usize,
-    start: usize,
-    out: &mut [u8],
-    origins: &mut [u16],
-    at: usize,
-) -> usize
-    requires { ⌜ WordRoom (now book) from ⌝ }
-    requires { ⌜ start ≤ longestTape ⌝ }
-    requires { ⌜ (at + length (wordAt (now book) from) ≤ length (now out)) × (at + length (wordAt (now book) from) ≤ length (now origins)) ⌝ }
-    ensures { λ r. ⌜ WordPut (wordAt (now (book .entry)) from) start at (now (out .entry)) (now (origins .entry)) r (now (out .exit)) (now (origins .exit)) ⌝ }
-{
-    let n = word_length(book, from);
-    let origin = word_origin(start);
-    let mut k = 0;
-    while k < n {
-        out[at + k] = book[from + 2 + k];
-        origins[at + k] = origin;
-        k += 1;
-    }
-    at + n
-}
-
-// What one position adds to the output's length and to the stretches taken, and where the last stretch ends after it.
+// What one position adds to the output's length.
 pub struct Share {
+    // The symbols that stand for it: 0 inside a stretch, else at most those of the longest word. `measure` sums them up.
     pub length: usize,
+    // Where the last stretch taken up to it ends, at most the tape's length: the end that `measure` carries to the next position.
     pub end: usize,
-    pub taken: usize,
 }
 
 fn share_of(
@@ -98,22 +47,14 @@ fn share_of(
     requires { ⌜ RightSets (now book) (now tape) (now sets) (now scratch) ⌝ }
     requires { ⌜ (i < length (now tape)) × (left ≡ leftAt (bookOf (now book)) (now tape) i) ⌝ }
     requires { ⌜ Remembers (bookOf (now book)) (now steps) (now symbols) ⌝ }
-    ensures { λ r. ⌜ Shared (rulesIn (now (book .entry))) (now (tape .entry)) i 0 end 0 (r .length) (r .end) (r .taken) ⌝ }
+    ensures { λ r. ⌜ Shared (rulesIn (now (book .entry))) (now (tape .entry)) i 0 end (r .length) (r .end) ⌝ }
     ensures { λ _. ⌜ Remembers (bookOf (now (book .entry))) (now (steps .exit)) (now (symbols .exit)) ⌝ }
 {
     if i < end {
-        return Share {
-            length: 0,
-            end,
-            taken: 0,
-        };
+        return Share { length: 0, end };
     }
     if right_set(sets, scratch, i) & masks[ALL_STARTS] == 0 {
-        return Share {
-            length: 1,
-            end: i,
-            taken: 0,
-        }; // no focus starts here: most positions
+        return Share { length: 1, end: i }; // no focus starts here: most positions
     }
     let t = taken_at(
         book,
@@ -131,25 +72,15 @@ fn share_of(
     let stop = t.end;
     let rule = t.rule;
     if stop == i {
-        return Share {
-            length: 1,
-            end: i,
-            taken: 0,
-        };
+        return Share { length: 1, end: i };
     }
     Share {
         length: word_length(book, words[rule] as usize),
         end: stop,
-        taken: 1,
     }
 }
 
-// The output's length, and the number of stretches taken.
-pub struct Size {
-    pub length: usize,
-    pub taken: usize,
-}
-
+// The output's length, without writing.
 pub(crate) fn measure(
     book: &[u8],
     places: &[u16; book::STATES],
@@ -160,15 +91,14 @@ pub(crate) fn measure(
     rows: &[u8],
     sets: &[u64],
     scratch: &[u8],
-) -> Size
+) -> usize
     requires { ⌜ Lent (now book) rules (now places) (now masks) (now words) ⌝ }
     requires { ⌜ Ready (now book) (now tape) (now rows) (now sets) (now scratch) ⌝ }
-    ensures { λ r. ⌜ Sized (rulesIn (now (book .entry))) (now (tape .entry)) (r .length) (r .taken) ⌝ }
+    ensures { λ r. ⌜ r ≡ length (rewriting (rulesIn (now (book .entry))) (now (tape .entry))) ⌝ }
 {
     let mut steps = [0u64; STEPS];
     let mut symbols = [0u8; SLOTS];
     let mut length = 0;
-    let mut taken = 0;
     let mut end = 0;
     let mut k = 0;
     let mut i = 0;
@@ -189,18 +119,20 @@ pub(crate) fn measure(
             &mut symbols,
         );
         length += s.length;
-        taken += s.taken;
         end = s.end;
         k = left_entry(rows, k, tape[i]);
         i += 1;
     }
-    Size { length, taken }
+    length
 }
 
-// Where the next symbol is written, where the last stretch ends, and how many are taken.
+// How far the writing pass has come.
 pub struct Spot {
+    // Where the next symbol is written, and its origin: at most the output's length, for which both buffers have room.
     pub at: usize,
+    // Where the last stretch taken ends, at most the tape's length: positions before it write nothing.
     pub end: usize,
+    // How many stretches are taken, at most one a position: REWRITE reports them.
     pub taken: usize,
 }
 
@@ -239,7 +171,7 @@ fn write_position(
     requires { ⌜ Lent (now book) rules (now places) (now masks) (now words) ⌝ }
     requires { ⌜ RightSets (now book) (now tape) (now sets) (now scratch) ⌝ }
     requires { ⌜ (i < length (now tape)) × (i < longestTape) × (left ≡ leftAt (bookOf (now book)) (now tape) i) × (s .taken ≤ longestTape) ⌝ }
-    requires { ⌜ Room (rulesIn (now book)) (now tape) i (s .at) (s .end) (now out) (now origins) ⌝ }
+    requires { ⌜ MarksFit (rulesIn (now book)) (now tape) i (s .at) (s .end) (now out) (now origins) ⌝ }
     requires { ⌜ Remembers (bookOf (now book)) (now steps) (now symbols) ⌝ }
     ensures { λ r. ⌜ MarksPut (rulesIn (now (book .entry))) (now (tape .entry)) i (s .at) (s .end) (s .taken) (now (out .entry)) (now (origins .entry)) (r .at) (r .end) (r .taken) (now (out .exit)) (now (origins .exit)) ⌝ }
     ensures { λ _. ⌜ Remembers (bookOf (now (book .entry))) (now (steps .exit)) (now (symbols .exit)) ⌝ }
@@ -278,6 +210,14 @@ fn write_position(
         end: stop,
         taken: many,
     }
+}
+
+// What the writing pass has counted.
+pub struct Size {
+    // The output's length, at most that of the longest word for each symbol of the tape.
+    pub length: usize,
+    // The stretches taken, at most one a symbol.
+    pub taken: usize,
 }
 
 // The writing pass, where there is room for the whole output; it counts as it writes.

@@ -9,6 +9,7 @@ use native.Mathlib.Omega.{arith}
 use lib.ListN.{length, take, drop, getD, set, length-set}
 use lib.Seq.{take-suc, drop-cons, drop-length, set-at, split-at, length-take-le, getD-set-same, drop-set-lt, append-snoc}
 use Rattle.book.specs.Language.{upFrom}
+use Rattle.sets.specs.Numbering.{mostSets}
 use Rattle.sets.specs.Tables.{rightEntry}
 use Rattle.stretches.specs.Buffers.{onto}
 use Rattle.rewriter.specs.Opening.{rightNumber, rightAll}
@@ -54,7 +55,7 @@ right-end rows t = rw drop-length
 -- the loop's invariant: the front is as it was, and from i on the numbers stand, before what was there; v is the number at i
 pub record Filled (rows t s₀ s : List ℕ) (i v : ℕ) : Type 0 where
   pub within : i ≤ length t
-  pub byte : v < 256
+  pub byte : v < mostSets
   pub same : length s ≡ length s₀
   pub number : v ≡ rightNumber rows t i
   pub filled : s ≡ take i s₀ ++ (from (rightNumber rows t) (length t) i ++ drop (length t + 1) s₀)
@@ -73,7 +74,7 @@ filled-start rows t s h =
     }
 
 pub filled-turn : (rows t s₀ s : List ℕ) (i j v b : ℕ) → i ≡ j + 1 → j < length t → length t < length s₀
-    → b ≡ rightEntry rows v (getD t j 0) → b < 256 → Filled rows t s₀ s i v → Filled rows t s₀ (set s j b) j b
+    → b ≡ rightEntry rows v (getD t j 0) → b < mostSets → Filled rows t s₀ s i v → Filled rows t s₀ (set s j b) j b
 filled-turn rows t s₀ s i j v b p h g e k inv =
     let was : Filled rows t s₀ s (j + 1) v = subst (λ (n : ℕ). Filled rows t s₀ s n v) p inv in
     let q : b ≡ rightNumber rows t j = e ∙ ap (λ (n : ℕ). rightEntry rows n (getD t j 0)) (was .number) ∙ sym (right-step rows t j h) in
@@ -92,7 +93,7 @@ from-all : (rows t : List ℕ) → from (rightNumber rows t) (length t) 0 ≡ ri
 unfolding rightAll
 from-all rows t = ap (λ (k : ℕ). map (rightNumber rows t) (upFrom 0 k)) (sub-zero (suc (length t)))
 
-pub length-all : (rows t : List ℕ) → length (rightAll rows t) ≡ length t + 1
+length-all : (rows t : List ℕ) → length (rightAll rows t) ≡ length t + 1
 unfolding rightAll
 length-all rows t = length-up (rightNumber rows t) 0 (suc (length t)) ∙ sym (add-one (length t))
 

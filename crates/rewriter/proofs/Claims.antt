@@ -15,7 +15,8 @@ use Rattle.stretches.specs.Buffers.{onto}
 use Rattle.rewriter.specs.Show.{between, boundsOf, showDef}
 use Rattle.rewriter.specs.Replies.{accountDef}
 use Rattle.stretches.specs.Paper.{Context, start, end, RC, BookRC, C, Earliest, Over, Overlap, CLM, CLML, RewriteLML}
-use Rattle.stretches.specs.Sentences.{Candidate, Taken, Takes, Sorted, SameCandidate, lineNumber, candidateCount, Judged, takenLines, lineOf, Chain, replace, removed, writes, keptSymbols, writtenWords, Shuffled}
+use Rattle.stretches.specs.Sentences.{Candidate, Taken, Takes, Sorted, SameCandidate, lineNumber, candidateCount, Judged, takenLines, lineOf}
+use Rattle.stretches.specs.Sentences.{Chain, replace, removed, writes, keptSymbols, writtenWords, Shuffled}
 use Rattle.stretches.specs.Sentences.{symbolsFrom, originsFrom, Traced}
 use Rattle.stretches.specs.Books.{bookP}
 use Rattle.stretches.specs.Table.{rewritten, rows, tape8, table}
@@ -50,7 +51,8 @@ pub overlap-is-over : (c d : Context) → Overlap c d ↔ (Over c d ⊎ Over d c
 overlap-is-over = Greedy.overlap-over
 
 -- example 3.8: C_LML of case 8 has just the contexts from 1 to 6 and from 8 to 10
-pub example-8 : (i j : ℕ) → ((c : Context) × CLML (rulesIn bookP) tape8 c × (start c ≡ i) × (end c ≡ j)) ↔ List·Memᴰ (Stretches.stretch i j) (Stretches.stretch 1 6 ∷ Stretches.stretch 8 10 ∷ [])
+pub example-8 : (i j : ℕ) → ((c : Context) × CLML (rulesIn bookP) tape8 c × (start c ≡ i) × (end c ≡ j))
+    ↔ List·Memᴰ (Stretches.stretch i j) (Stretches.stretch 1 6 ∷ Stretches.stretch 8 10 ∷ [])
 example-8 = Batches.example8
 
 module _ (b : Rules) (t : List ℕ) where
@@ -123,7 +125,8 @@ module _ (b : Rules) (t : List ℕ) where
   pub lines-sorted : Sorted (account b t)
   lines-sorted = Accounts.account-sorted b t
 
-  pub lines-once : (j k : ℕ) → j < length (account b t) → k < length (account b t) → SameCandidate (lineNumber (account b t) j) (lineNumber (account b t) k) → j ≡ k
+  pub lines-once : (j k : ℕ) → j < length (account b t) → k < length (account b t)
+      → SameCandidate (lineNumber (account b t) j) (lineNumber (account b t) k) → j ≡ k
   lines-once = Sorting.sorted-once (account b t) (Accounts.account-sorted b t)
 
   -- as many lines as candidates, so many words a line

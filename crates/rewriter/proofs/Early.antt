@@ -39,13 +39,13 @@ head-good : (test : Bool) (n m : ℕ) → suc n ≤ cond test (suc m) 0 → (tes
 head-good true n m h = (refl, omega arith)
 head-good false n m h = absurd (omega arith)
 
-pub all-good : (t : List ℕ) → length t ≤ firstBad t → Symbols t
+all-good : (t : List ℕ) → length t ≤ firstBad t → Symbols t
 unfolding firstBad
 all-good [] h i g = absurd (omega arith)
 all-good (x ∷ t) h zero g = ltb-true x symbolCount (head-good (ltb x symbolCount) (length t) (firstBad t) h .0)
 all-good (x ∷ t) h (suc i) g = all-good t (head-good (ltb x symbolCount) (length t) (firstBad t) h .1) i (omega arith)
 
-pub none-bad : (t : List ℕ) → Symbols t → firstBad t ≡ length t
+none-bad : (t : List ℕ) → Symbols t → firstBad t ≡ length t
 unfolding firstBad
 none-bad [] h = refl
 none-bad (x ∷ t) h = simp (lt-ltb x symbolCount (h 0 (omega arith))) (ap suc (none-bad t (λ i g. h (suc i) (omega arith))))
@@ -88,8 +88,8 @@ module _ (book tape : List ℕ) (rows sets scratch : ℕ) where
           unfolding early
           early-none h = simp (eq-eqb _ _ z, le-ltb _ _ fits, le-ltb _ _ good, le-ltb _ _ long, le-ltb _ _ wide, lt-leb _ _ h)
 
--- what a call that passes has
-pub record Passed (book tape : List ℕ) (rows sets scratch : ℕ) : Type 0 where
+-- what a call has that none of them refuses
+pub record Admitted (book tape : List ℕ) (rows sets scratch : ℕ) : Type 0 where
   pub accepted : checkDef book .reply ≡ 0
   pub fits : length tape ≤ longestTape
   pub symbols : Symbols tape
@@ -112,9 +112,9 @@ neither : (a b : Bool) → (a || b) ≡ false → (a ≡ false) × (b ≡ false)
 neither true b e = absurd (false≢true (sym e))
 neither false b e = (refl, e)
 
-pub passed : (book tape : List ℕ) (rows sets scratch : ℕ) → early book tape rows sets scratch .reply ≡ 0 → Passed book tape rows sets scratch
+pub admitted : (book tape : List ℕ) (rows sets scratch : ℕ) → early book tape rows sets scratch .reply ≡ 0 → Admitted book tape rows sets scratch
 unfolding early
-passed book tape rows sets scratch e =
+admitted book tape rows sets scratch e =
     let p = past-book (checkDef book .reply) (checkDef book .place) _ e in
     let p9 = past (ltb longestTape (length tape)) 8 0 _ (p .1) in
     let p10 = past (ltb (firstBad tape) (length tape)) 9 (firstBad tape) _ (p9 .1) in

@@ -1,10 +1,12 @@
-pub mod Showing
-pub mod Claims
+-- Laws of what comes before the passes: the refusals, the backward pass, and that everything is then ready.
 pub mod Early
 pub mod Backwards
 pub mod MakeReady
-pub mod Tapes
+-- REWRITE and ACCOUNT as wholes, and SHOW.
 pub mod Whole
+pub mod Showing
+pub mod ShownAfter
+-- What the crates above may rely on, and the theorems on one page.
 pub mod Callers
 pub mod One
-pub mod ShownAfter
+pub mod Claims

@@ -22,7 +22,7 @@ use Rattle.rewriter.specs.Opening.{opened, Symbols, rightNumber, rightAl
 use Rattle.rewriter.specs.declared.Refusal.{Refusal}
 use Rattle.rewriter.specs.declared.refusals.Opened.{Opened}
 use Rattle.stretches.proofs.Onto.{onto-length, onto-at}
-use Rattle.rewriter.proofs.Early.{Passed, passed}
+use Rattle.rewriter.proofs.Early.{Admitted, admitted}
 use Rattle.rewriter.proofs.Backwards.{length-up, at-up, same-up}
 
 -- a tape of symbols, and what is left of it
@@ -33,7 +33,8 @@ tape-drop (x ∷ t) s zero = (s 0 (omega arith), tape-drop t (λ k h. s (suc k) 
 tape-drop (x ∷ t) s (suc i) = tape-drop t (λ k h. s (suc k) (omega arith)) i
 
 -- "Scratch byte i, for i from 0 to n, is the number of the right set at i": the walk over the rows that BUILD left
-pub right-numbers : (book R S t : List ℕ) → buildDef book R S .answer .reply ≡ 0 → Symbols t → rightAll (buildDef book R S .rows) t ≡ rightNumbers (bookOf book) t
+pub right-numbers : (book R S t : List ℕ) → buildDef book R S .answer .reply ≡ 0 → Symbols t
+    → rightAll (buildDef book R S .rows) t ≡ rightNumbers (bookOf book) t
 unfolding rightAll rightNumbers rightAt
 right-numbers book R S t z s = same-up _ _ (λ i. right-number book R S z (drop i t) (tape-drop t s i)) 0 (suc (length t))
 
@@ -54,11 +55,13 @@ module _ (book tape rows sets scratch : List ℕ) where
   refused-is h = simp (ne-eqb _ _ h)
 
   -- "13 and 14 leave the workspace parts all 0 and nothing else changed."
-  unbuilt-is : opening .reply ≡ 0 → (building .answer .reply ≡ 0 → ⊥) → readyDef book tape rows sets scratch ≡ readyLeaves (refusal (building .answer .reply) 0) (building .rows) (building .sets) scratch
+  unbuilt-is : opening .reply ≡ 0 → (building .answer .reply ≡ 0 → ⊥)
+      → readyDef book tape rows sets scratch ≡ readyLeaves (refusal (building .answer .reply) 0) (building .rows) (building .sets) scratch
   unfolding readyDef
   unbuilt-is z h = simp (eq-eqb _ _ z, ne-eqb _ _ h)
 
-  ready-is : opening .reply ≡ 0 → building .answer .reply ≡ 0 → readyDef book tape rows sets scratch ≡ readyLeaves (refusal (building .answer .reply) 0) (building .rows) (building .sets) (onto (rightNumbers (bookOf book) tape) scratch)
+  ready-is : opening .reply ≡ 0 → building .answer .reply ≡ 0 → readyDef book tape rows sets scratch
+      ≡ readyLeaves (refusal (building .answer .reply) 0) (building .rows) (building .sets) (onto (rightNumbers (bookOf book) tape) scratch)
   unfolding readyDef
   ready-is z y = simp (eq-eqb (opening .reply) 0 z, eq-eqb (building .answer .reply) 0 y)
 
@@ -80,8 +83,8 @@ module _ (book tape rows sets scratch : List ℕ) where
     leaves-refused h = (ap (λ (x : Refusal). readyLeaves x rows sets scratch) refusal-is ∙ sym (refused-is (λ z. h (reply-is ∙ z))), rules-are)
 
     module _ (z : o .refusal .reply ≡ 0) where
-      pub opening-passed : Passed book tape (length rows) (length sets) (length scratch)
-      opening-passed = passed book tape (length rows) (length sets) (length scratch) (sym reply-is ∙ z)
+      pub opening-admitted : Admitted book tape (length rows) (length sets) (length scratch)
+      opening-admitted = admitted book tape (length rows) (length sets) (length scratch) (sym reply-is ∙ z)
 
       module _ (b : Built) (R S : List ℕ) (as-built : buildLeaves b R S ≡ building) (r : Opened) where
         pub leaves-unbuilt : (b .reply ≡ 0 → ⊥) → r ≡ opened (refusal (b .reply) 0) (o .rules) → Leaves r R S scratch
@@ -97,31 +100,37 @@ module _ (book tape rows sets scratch : List ℕ) where
             let y′ : building .answer .reply ≡ 0 = sym (ap (λ (x : AfterBuild). x .answer .reply) as-built) ∙ y in (
               ap₂ (λ (x : Refusal) (l : List ℕ). readyLeaves x R S l) (ap (λ (x : Opened). x .refusal) e ∙ ap (λ (k : ℕ). refusal k 0) (sym y)) f
                   ∙ ap (λ (x : AfterBuild). readyLeaves (refusal (x .answer .reply) 0) (x .rows) (x .sets) (onto (rightAll (x .rows) tape) scratch)) as-built
-                  ∙ ap (λ (l : List ℕ). readyLeaves (refusal (building .answer .reply) 0) (building .rows) (building .sets) (onto l scratch)) (right-numbers book rows sets tape y′ (opening-passed .symbols))
+                  ∙ ap (λ (l : List ℕ). readyLeaves (refusal (building .answer .reply) 0) (building .rows) (building .sets) (onto l scratch))
+                  (right-numbers book rows sets tape y′ (opening-admitted .symbols))
                   ∙ sym (ready-is (sym reply-is ∙ z) y′),
               ap (λ (x : Opened). x .rules) e ∙ rules-are,
             )
 
 -- the ways, in the order of the replies
 pub data ReadyWay (book tape rows sets scratch : List ℕ) (x : AfterReady) : Type 0 where
-  stopped : (opening book tape rows sets scratch .reply ≡ 0 → ⊥) → x ≡ readyLeaves (opening book tape rows sets scratch) rows sets scratch → ReadyWay book tape rows sets scratch x
-  unbuilt : (buildDef book rows sets .answer .reply ≡ 0 → ⊥) → x ≡ readyLeaves (refusal (buildDef book rows sets .answer .reply) 0) (buildDef book rows sets .rows) (buildDef book rows sets .sets) scratch
+  stopped : (opening book tape rows sets scratch .reply ≡ 0 → ⊥) → x ≡ readyLeaves (opening book tape rows sets scratch) rows sets scratch
       → ReadyWay book tape rows sets scratch x
-  made : Passed book tape (length rows) (length sets) (length scratch) → buildDef book rows sets .answer .reply ≡ 0
-      → x ≡ readyLeaves (refusal (buildDef book rows sets .answer .reply) 0) (buildDef book rows sets .rows) (buildDef book rows sets .sets) (onto (rightNumbers (bookOf book) tape) scratch)
+  unbuilt : (buildDef book rows sets .answer .reply ≡ 0 → ⊥)
+      → x ≡ readyLeaves (refusal (buildDef book rows sets .answer .reply) 0) (buildDef book rows sets .rows) (buildDef book rows sets .sets) scratch
+      → ReadyWay book tape rows sets scratch x
+  made : Admitted book tape (length rows) (length sets) (length scratch) → buildDef book rows sets .answer .reply ≡ 0
+      → x
+      ≡ readyLeaves (refusal (buildDef book rows sets .answer .reply) 0) (buildDef book rows sets .rows) (buildDef book rows sets .sets)
+      (onto (rightNumbers (bookOf book) tape) scratch)
       → ReadyWay book tape rows sets scratch x
 
 pub ready-way : (book tape rows sets scratch : List ℕ) → ReadyWay book tape rows sets scratch (readyDef book tape rows sets scratch)
 ready-way book tape rows sets scratch = by (ℕ-discrete (opening book tape rows sets scratch .reply) 0) (ℕ-discrete (buildDef book rows sets .answer .reply) 0)
   where
-    by : Dec (opening book tape rows sets scratch .reply ≡ 0) → Dec (buildDef book rows sets .answer .reply ≡ 0) → ReadyWay book tape rows sets scratch (readyDef book tape rows sets scratch)
+    by : Dec (opening book tape rows sets scratch .reply ≡ 0) → Dec (buildDef book rows sets .answer .reply ≡ 0)
+        → ReadyWay book tape rows sets scratch (readyDef book tape rows sets scratch)
     by (no h) d = stopped h (refused-is book tape rows sets scratch h)
     by (yes z) (no h) = unbuilt h (unbuilt-is book tape rows sets scratch z h)
-    by (yes z) (yes y) = made (passed book tape _ _ _ z) y (ready-is book tape rows sets scratch z y)
+    by (yes z) (yes y) = made (admitted book tape _ _ _ z) y (ready-is book tape rows sets scratch z y)
 
 -- what stands after reply 0 is all that the forward passes ask
 module _ (book tape rows sets scratch : List ℕ) where
-  module _ (p : Passed book tape (length rows) (length sets) (length scratch)) (z : buildDef book rows sets .answer .reply ≡ 0) where
+  module _ (p : Admitted book tape (length rows) (length sets) (length scratch)) (z : buildDef book rows sets .answer .reply ≡ 0) where
     number-at : (j : ℕ) → j ≤ length tape → getD (onto (rightNumbers (bookOf book) tape) scratch) j 0 ≡ rightNumber (buildDef book rows sets .rows) tape j
     unfolding rightAll
     number-at j h =
@@ -138,7 +147,12 @@ module _ (book tape rows sets scratch : List ℕ) where
           accepted = p .accepted;
           rows-room = t .rows-room;
           sets-room = t .sets-room;
-          scratch-room = omega (arith, p .scratch-room, onto-length (rightNumbers (bookOf book) tape) scratch (omega (arith, p .scratch-room, numbers-length (bookOf book) tape)));
+          scratch-room =
+              omega (
+                arith,
+                p .scratch-room,
+                onto-length (rightNumbers (bookOf book) tape) scratch (omega (arith, p .scratch-room, numbers-length (bookOf book) tape)),
+              );
           tape-fits = p .fits;
           symbols = p .symbols;
           right = λ j h. ap (rightSet (buildDef book rows sets .sets)) (number-at j h) ∙ right-walk book _ _ t (drop j tape) (tape-drop tape (p .symbols) j) .1;
@@ -159,6 +173,8 @@ ready book tape rows sets scratch z = by (readyDef book tape rows sets scratch) 
     by x (made p y e) z = rw e (made-ready book tape rows sets scratch p y)
 
 -- the same from the contract of `make_ready`
-pub left-ready : (book tape rows sets scratch : List ℕ) (r : Refusal) (R S X : List ℕ) → readyLeaves r R S X ≡ readyDef book tape rows sets scratch → r .reply ≡ 0 → Ready book tape R S X
+pub left-ready : (book tape rows sets scratch : List ℕ) (r : Refusal) (R S X : List ℕ) → readyLeaves r R S X ≡ readyDef book tape rows sets scratch
+    → r .reply ≡ 0 → Ready book tape R S X
 left-ready book tape rows sets scratch r R S X e z =
-    subst (λ (x : AfterReady). Ready book tape (x .rows) (x .sets) (x .scratch)) (sym e) (ready book tape rows sets scratch (sym (ap (λ (x : AfterReady). x .answer .reply) e) ∙ z))
+    subst (λ (x : AfterReady). Ready book tape (x .rows) (x .sets) (x .scratch)) (sym e)
+    (ready book tape rows sets scratch (sym (ap (λ (x : AfterReady). x .answer .reply) e) ∙ z))

@@ -8,7 +8,7 @@ use lib.ListN.{length, drop, getD, length-append, List·getD-append}
 use lib.Seq.{getD-append-add}
 use Rattle.book.specs.Reading.{checkDef}
 use Rattle.book.specs.Language.{rulesIn}
-use Rattle.stretches.specs.Account.{Line, account, lineWords, lineLength, line-length, wordsIn}
+use Rattle.stretches.specs.Account.{Line, account, lineWords, lineLength, lineStart, lineEnd, line-length, wordsIn}
 use Rattle.stretches.specs.Sentences.{lineNumber}
 use Rattle.stretches.specs.Buffers.{onto}
 use Rattle.rewriter.specs.Show.{wordOfLine, startIn, endIn, between, wordsThrough, boundsOf}
@@ -48,7 +48,7 @@ module _ (n : ℕ) (l : List ℕ) (k s e : ℕ) (whole : lineLength * (k + 1) �
       )
 
 -- word w of line k of an account is that of its line k
-pub word-of-line : (ls : List Line) (k w : ℕ) → k < length ls → w < lineLength → getD (lineWords (lineNumber ls k)) w 0 ≡ wordOfLine (wordsIn ls) k w
+word-of-line : (ls : List Line) (k w : ℕ) → k < length ls → w < lineLength → getD (lineWords (lineNumber ls k)) w 0 ≡ wordOfLine (wordsIn ls) k w
 unfolding wordsIn
 word-of-line [] k w h g = absurd (omega arith)
 word-of-line (l ∷ ls) zero w h g =
@@ -74,7 +74,7 @@ bounds-line s t lines z k h =
     let n = words-length ls in
     let m = length-append (wordsIn ls) (drop (length (wordsIn ls)) lines) in
     bounds-stretch (length t) (onto (wordsIn ls) lines) k (l .start) (l .end) (omega arith)
-    (word-of-line ls k 1 h (omega arith) ∙ sym (onto-at (wordsIn ls) lines (k * lineLength + 1) (omega arith)))
-    (word-of-line ls k 2 h (omega arith) ∙ sym (onto-at (wordsIn ls) lines (k * lineLength + 2) (omega arith)))
+    (word-of-line ls k lineStart h (omega arith) ∙ sym (onto-at (wordsIn ls) lines (k * lineLength + lineStart) (omega arith)))
+    (word-of-line ls k lineEnd h (omega arith) ∙ sym (onto-at (wordsIn ls) lines (k * lineLength + lineEnd) (omega arith)))
     (past-start b t (no-empty s z) (l .start) (l .end) (l .rule) c)
     (c .inside)

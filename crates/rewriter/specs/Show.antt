@@ -5,7 +5,7 @@ use mathlib.Core.List.{List}
 use mathlib.Core.Bool.{cond, _&&_}
 use lib.Dec.{leb, ltb}
 use lib.ListN.{length, getD, take, drop}
-use Rattle.stretches.specs.Account.{lineLength}
+use Rattle.stretches.specs.Account.{lineLength, lineStart, lineEnd}
 use Rattle.rewriter.specs.declared.shown.Bounds.{Bounds}
 
 -- word w of line k in the words of an account; lines are counted from 0
@@ -13,10 +13,10 @@ abbrev pub wordOfLine : List ℕ → ℕ → ℕ → ℕ
 wordOfLine lines k w = getD lines (k * lineLength + w) 0
 
 abbrev pub startIn : List ℕ → ℕ → ℕ
-startIn lines k = wordOfLine lines k 1
+startIn lines k = wordOfLine lines k lineStart
 
 abbrev pub endIn : List ℕ → ℕ → ℕ
-endIn lines k = wordOfLine lines k 2
+endIn lines k = wordOfLine lines k lineEnd
 
 abbrev pub between : ℕ → ℕ → Bounds
 between i j = record { start = i; end = j }

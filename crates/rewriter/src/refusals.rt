@@ -7,9 +7,11 @@ ghost use Rattle.rewriter.specs.Opening.{opened};
 use super::LONGEST_TAPE;
 use super::Refusal;
 
-// Whether a call is refused, and the number of the book's rules, which CHECK has counted.
+// What is known of a call before the forward passes.
 pub struct Opened {
+    // Whether it is refused, and with what.
     pub refusal: Refusal,
+    // How many rules the book has as CHECK has counted them: 1 to `book::RULES` where it is accepted, else 0. The passes try that many.
     pub rules: usize,
 }
 

@@ -4,11 +4,15 @@ ghost use mathlib.Core.Path.{_≡_};
 ghost use Prim.Native.Nat.{_+_, _≤_};
 ghost use lib.ListN.{length};
 ghost use Rattle.rewriter.specs.Show.{boundsOf, showDef};
+use lines::LINE_END;
+use lines::LINE_START;
 use lines::LINE_WORDS;
 
-// A part of the tape: from start up to and not including end.
+// A part of the tape.
 pub struct Bounds {
+    // Where it begins, at most `end`: SHOW's part is cut there, and C adds it to its pointer.
     pub start: usize,
+    // The position after its last, at most the tape's length, so that the part is one of the tape; 0 where the line names no stretch.
     pub end: usize,
 }
 
@@ -27,8 +31,8 @@ pub fn bounds_of(n: usize, lines: &[u16], line: usize) -> Bounds
         return Bounds { start: 0, end: 0 };
     }
     let i = line * LINE_WORDS;
-    let start = wide(lines[i + 1]);
-    let end = wide(lines[i + 2]);
+    let start = wide(lines[i + LINE_START]);
+    let end = wide(lines[i + LINE_END]);
     if end <= start {
         return Bounds { start: 0, end: 0 };
     }

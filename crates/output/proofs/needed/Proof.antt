@@ -1,4 +1,5 @@
--- `output::needed` meets its contract: the longest possible output is at least as long as the output, and a measured one is the output's. Assumes nothing.
+-- `output::needed` meets its contract: the longest possible output is at least as long as the output, and a measured one is the output's.
+-- Assumes nothing.
 use mathlib.Core.Path.{_∙_}
 use native.Mathlib.Omega.{arith}
 use borrow.Author.Needs.{needs}
@@ -13,26 +14,34 @@ longest-word-requires c κs = search needs
 
 mul-if1 : tie.Need-mul-if1
 mul-if1 c =
-    let a = c .before .before .before .before .before .before .args in
-    omega (arith, most-fits (a .book .now) (a .tape .now) (a .rows .now) (a .sets .now) (a .scratch .now) (c .before .before .before .before .before .before .pre .1) (c .longest-word .result) (c .longest-word .ensures))
+    let s = c .before .before .before .before .before .before in
+    let a = s .args in
+    let m = c .longest-word in
+    omega (arith, most-fits (a .book .now) (a .tape .now) (a .rows .now) (a .sets .now) (a .scratch .now) (s .pre .1) (m .result) (m .ensures))
 
 returns : tie.Need-returns
 returns c =
-    let a = c .before .before .before .before .before .before .before .args in
-    needed-none (rulesIn (a .book .now)) (a .tape .now) (a .room) (omega (arith, c .if1 .taken, output-most (a .book .now) (a .tape .now) (a .rows .now) (a .sets .now) (a .scratch .now) (c .before .before .before .before .before .before .before .pre .1) (c .before .longest-word .result) (c .before .longest-word .ensures)))
+    let s = c .before .before .before .before .before .before .before in
+    let a = s .args in
+    let m = c .before .longest-word in
+    let n = output-most (a .book .now) (a .tape .now) (a .rows .now) (a .sets .now) (a .scratch .now) (s .pre .1) (m .result) (m .ensures) in
+    needed-none (rulesIn (a .book .now)) (a .tape .now) (a .room) (omega (arith, c .if1 .taken, n))
 
 measure-requires : tie.Need-measure-requires
 measure-requires c κs = search needs
 
 returns-2 : tie.Need-returns-2
 returns-2 c =
-    let a = c .before .before .before .before .before .before .before .before .before .args in
-    needed-none (rulesIn (a .book .now)) (a .tape .now) (a .room) (omega (arith, c .if2 .taken, c .before .measure .ensures .lens))
+    let s = c .before .before .before .before .before .before .before .before .before in
+    let a = s .args in
+    needed-none (rulesIn (a .book .now)) (a .tape .now) (a .room) (omega (arith, c .if2 .taken, c .before .measure .ensures))
 
 returns-3 : tie.Need-returns-3
 returns-3 c =
-    let a = c .before .before .before .before .before .before .before .before .before .args in
-    c .before .measure .ensures .lens ∙ needed-all (rulesIn (a .book .now)) (a .tape .now) (a .room) (omega (arith, c .if2 .left, c .before .measure .ensures .lens))
+    let s = c .before .before .before .before .before .before .before .before .before in
+    let a = s .args in
+    let m = c .before .measure in
+    m .ensures ∙ needed-all (rulesIn (a .book .now)) (a .tape .now) (a .room) (omega (arith, c .if2 .left, m .ensures))
 
 pub needed-spec : {M : Type 1} → statement M
 needed-spec =

@@ -16,12 +16,13 @@ place-rules-requires c κs = search needs
 
 write-if-room-requires : tie.Need-write-if-room-requires
 write-if-room-requires c κs =
+    let place-rules = c .before .before .before .before .before .before .before .place-rules in
     let b = c .before .before .before .before .before .before .before .before .before .before .before .before .before .before .before .before in
     let a = b .args in
     let o = c .before .before .before .before .before .before .before .before .outline-of in (
       record {
         outlined = subst (λ (n : ℕ). Outlined (bookOf (a .book .now)) n (o .result .places) (o .result .masks)) (sym (b .pre .1)) (o .ensures);
-        words-at = words-at (a .book .now) _ (b .pre .0 .accepted) (c .before .before .before .before .before .before .before .place-rules .ensures);
+        words-at = words-at (a .book .now) _ (b .pre .0 .accepted) (place-rules .ensures);
       },
       b .pre .0,
     )

@@ -19,15 +19,21 @@ no-room-requires c κs = search needs
 
 returns : tie.Need-returns
 returns c =
-    let a = c .before .before .before .before .before .before .before .before .before .before .before .args in
-    let e = c .before .before .needed .ensures ∙ ap (neededPast (rulesIn (a .book .now)) (a .tape .now)) (c .before .before .before .room-of .ensures) in
-    tape-no-room (rulesIn (a .book .now)) (a .tape .now) (a .out .now) (a .origins .now) (c .before .before .needed .result) (c .no-room .result) e (c .before .if1 .taken) (c .no-room .ensures)
+    let s = c .before .before .before .before .before .before .before .before .before .before .before in
+    let a = s .args in
+    let n = c .before .before .needed in
+    let e = n .ensures ∙ ap (neededPast (rulesIn (a .book .now)) (a .tape .now)) (c .before .before .before .room-of .ensures) in
+    tape-no-room (rulesIn (a .book .now)) (a .tape .now) (a .out .now) (a .origins .now) (n .result) (c .no-room .result) e (c .before .if1 .taken)
+    (c .no-room .ensures)
 
 forward-requires : tie.Need-forward-requires
 forward-requires c κs =
-    let a = c .before .before .before .before .before .before .before .before .before .before .before .before .args in
-    let h = needed-fits (rulesIn (a .book .now)) (a .tape .now) (c .before .before .before .before .room-of .result) (c .before .before .before .needed .result) (c .before .before .before .needed .ensures) (c .before .before .if1 .left) in
-    (c .before .before .before .before .before .before .before .before .before .before .before .before .pre .0, (c .before .before .before .before .before .before .before .before .before .before .before .before .pre .1, (omega (arith, h, c .before .before .before .before .room-of .ensures), omega (arith, h, c .before .before .before .before .room-of .ensures))))
+    let s = c .before .before .before .before .before .before .before .before .before .before .before .before in
+    let a = s .args in
+    let n = c .before .before .before .needed in
+    let m = c .before .before .before .before .room-of in
+    let h = needed-fits (rulesIn (a .book .now)) (a .tape .now) (m .result) (n .result) (n .ensures) (c .before .before .if1 .left) in
+    (s .pre .0, (s .pre .1, (omega (arith, h, m .ensures), omega (arith, h, m .ensures))))
 
 same-length : tie.Need-same-length
 same-length c = search needs
@@ -37,10 +43,15 @@ same-length-2 c = search needs
 
 returns-2 : tie.Need-returns-2
 returns-2 c =
-    let a = c .before .before .before .before .before .before .before .before .before .before .before .before .before .before .before .before .before .args in
+    let s = c .before .before .before .before .before .before .before .before .before .before .before .before .before .before .before .before .before in
+    let if1 = c .before .before .before .before .before .before .before .if1 in
+    let a = s .args in
+    let n = c .before .before .before .before .before .before .before .before .needed in
+    let m = c .before .before .before .before .before .before .before .before .before .room-of in
     let f = c .before .before .before .before .forward in
-    let h = needed-fits (rulesIn (a .book .now)) (a .tape .now) (c .before .before .before .before .before .before .before .before .before .room-of .result) (c .before .before .before .before .before .before .before .before .needed .result) (c .before .before .before .before .before .before .before .before .needed .ensures) (c .before .before .before .before .before .before .before .if1 .left) in
-    tape-done (rulesIn (a .book .now)) (a .tape .now) (a .out .now) (a .origins .now) (f .result .length) (f .result .taken) _ _ (f .ensures .0) (omega (arith, h, c .before .before .before .before .before .before .before .before .before .room-of .ensures, f .ensures .0 .lens)) (omega (arith, h, c .before .before .before .before .before .before .before .before .before .room-of .ensures, f .ensures .0 .lens)) (f .ensures .1 .0) (f .ensures .1 .1)
+    let h = needed-fits (rulesIn (a .book .now)) (a .tape .now) (m .result) (n .result) (n .ensures) (if1 .left) in
+    tape-done (rulesIn (a .book .now)) (a .tape .now) (a .out .now) (a .origins .now) (f .result .length) (f .result .taken) _ _ (f .ensures .0)
+    (omega (arith, h, m .ensures, f .ensures .0 .lens)) (omega (arith, h, m .ensures, f .ensures .0 .lens)) (f .ensures .1 .0) (f .ensures .1 .1)
 
 pub write-if-room-spec : {M : Type 1} → statement M
 write-if-room-spec =

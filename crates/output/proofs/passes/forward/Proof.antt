@@ -1,4 +1,4 @@
--- `passes::forward` meets its contract: what is written and counted so far, followed by what is still to come, is the whole. Assumes nothing.
+-- `passes::forward` meets its contract: what stands in front of both outputs, followed by what is still to come, is the whole. Assumes nothing.
 use Prim.Native.Nat.{_-_, _≤_, _<_}
 use native.Mathlib.Omega.{arith}
 use borrow.Author.Needs.{needs}
@@ -6,8 +6,7 @@ use lib.ListN.{length}
 use Rattle.book.specs.Reading.{bookOf}
 use Rattle.stretches.specs.Ready.{Remembers}
 use Rattle.stretches.proofs.Scans.{rights-of}
-use Rattle.output.proofs.Forth.{Forth, forth-start, forth-room, forth-turn, forth-outs, forth-orgs}
-use Rattle.output.proofs.Measured.{counted-taken, counted-end}
+use Rattle.output.proofs.Forth.{Forth, forth-start, forth-taken, forth-fits, forth-turn, forth-sized, forth-outs, forth-orgs}
 use Rattle.stretches.proofs.Remembering.{remembers-start}
 use Rattle.output.proofs.passes.forward.Statement.{statement}
 use Rattle.output.proofs.passes.forward.Tie as tie
@@ -22,28 +21,37 @@ abbrev μ-loop : tie.MeasureT-loop
 
 loop-holds : tie.Need-loop-holds Inv-loop μ-loop
 loop-holds c =
-    let a = c .before .before .before .before .before .before .before .args in
-    (forth-start (a .book .now) (a .tape .now) (a .rows .now) (a .sets .now) (a .scratch .now) (a .out .now) (a .origins .now) (c .before .before .before .before .before .before .before .pre .1 .0), remembers-start (bookOf (a .book .now)))
+    let s = c .before .before .before .before .before .before .before in
+    let a = s .args in (
+      forth-start (a .book .now) (a .tape .now) (a .rows .now) (a .sets .now) (a .scratch .now) (a .out .now) (a .origins .now) (s .pre .1 .0),
+      remembers-start (bookOf (a .book .now)),
+    )
 
 mul-write-position : tie.Need-mul-write-position Inv-loop μ-loop
 mul-write-position c = search needs
 
 shared-slice-read-write-position : tie.Need-shared-slice-read-write-position Inv-loop μ-loop
 shared-slice-read-write-position c =
-    omega (arith, c .before .before .loop .inv .0 .counted .left .below, c .before .before .before .before .before .before .before .before .before .before .pre .1 .0 .few, c .before .before .before .before .before .before .before .before .before .before .pre .1 .0 .sets-room)
+    let s = c .before .before .before .before .before .before .before .before .before .before in
+    omega (arith, c .before .before .loop .inv .0 .counted .left .below, s .pre .1 .0 .few, s .pre .1 .0 .sets-room)
 
 write-position-requires : tie.Need-write-position-requires Inv-loop μ-loop
 write-position-requires c κs =
-    let a = c .before .before .before .before .before .before .before .before .before .before .before .before .before .before .args in
+    let loop-test = c .before .before .before .before .before .loop-test in
+    let s = c .before .before .before .before .before .before .before .before .before .before .before .before .before .before in
+    let a = s .args in
     let l = c .before .before .before .before .before .before .loop in
-    let h : l .i < length (a .tape .now) = c .before .before .before .before .before .loop-test .taken in (
-      c .before .before .before .before .before .before .before .before .before .before .before .before .before .before .pre .0,
+    let h : l .i < length (a .tape .now) = loop-test .taken in
+    let many =
+    forth-taken (a .book .now) (a .tape .now) (a .rows .now) (a .sets .now) (a .scratch .now) (a .out .now) (a .origins .now) (s .pre .1 .0)
+    (l .out) (l .origins) (l .at) (l .taken) (l .end) (l .k) (l .i) (l .inv .0) in
+    let fit =
+    forth-fits (a .book .now) (a .tape .now) (a .rows .now) (a .sets .now) (a .scratch .now) (a .out .now) (a .origins .now) (s .pre .1 .0)
+    (l .out) (l .origins) (l .at) (l .taken) (l .end) (l .k) (l .i) (l .inv .0) h (s .pre .1 .1 .0) (s .pre .1 .1 .1) in (
+      s .pre .0,
       (
-        rights-of (a .book .now) (a .tape .now) (a .rows .now) (a .sets .now) (a .scratch .now) (c .before .before .before .before .before .before .before .before .before .before .before .before .before .before .pre .1 .0),
-        (
-          (h, omega (arith, c .before .before .before .before .before .before .before .before .before .before .before .before .before .before .pre .1 .0 .tape-fits), l .inv .0 .counted .left .is, counted-taken (a .book .now) (a .tape .now) (a .rows .now) (a .sets .now) (a .scratch .now) (c .before .before .before .before .before .before .before .before .before .before .before .before .before .before .pre .1 .0) (l .at) (l .taken) (l .end) (l .k) (l .i) (l .inv .0 .counted)),
-          (forth-room (a .book .now) (a .tape .now) (a .rows .now) (a .sets .now) (a .scratch .now) (a .out .now) (a .origins .now) (c .before .before .before .before .before .before .before .before .before .before .before .before .before .before .pre .1 .0) (l .out) (l .origins) (l .at) (l .taken) (l .end) (l .k) (l .i) (l .inv .0) h (c .before .before .before .before .before .before .before .before .before .before .before .before .before .before .pre .1 .1 .0) (c .before .before .before .before .before .before .before .before .before .before .before .before .before .before .pre .1 .1 .1), l .inv .1),
-        ),
+        rights-of (a .book .now) (a .tape .now) (a .rows .now) (a .sets .now) (a .scratch .now) (s .pre .1 .0),
+        ((h, omega (arith, s .pre .1 .0 .tape-fits), l .inv .0 .counted .left .is, many), (fit, l .inv .1)),
       ),
     )
 
@@ -52,26 +60,38 @@ shared-slice-read-left-entry c = search needs
 
 left-entry-requires : tie.Need-left-entry-requires Inv-loop μ-loop
 left-entry-requires c κs =
+    let loop-test = c .before .before .before .before .before .before .before .before .before .before .before .loop-test in
+    let half = c .before .before .before .before .before .before .before .before .before .before in
+    let s = half .before .before .before .before .before .before .before .before .before .before in
     let l = c .before .before .before .before .before .before .before .before .before .before .before .before .loop in
-    let h : l .i < length (c .before .before .before .before .before .before .before .before .before .before .before .before .before .before .before .before .before .before .before .before .args .tape .now) = c .before .before .before .before .before .before .before .before .before .before .before .loop-test .taken in
-    (omega (arith, l .inv .0 .counted .left .below, c .before .before .before .before .before .before .before .before .before .before .before .before .before .before .before .before .before .before .before .before .pre .1 .0 .few), c .before .before .before .before .before .before .before .before .before .before .before .before .before .before .before .before .before .before .before .before .pre .1 .0 .symbols (l .i) h, c .before .before .before .before .before .before .before .before .before .before .before .before .before .before .before .before .before .before .before .before .pre .1 .0 .rows-room)
+    let h : l .i < length (s .args .tape .now) = loop-test .taken in
+    (omega (arith, l .inv .0 .counted .left .below, s .pre .1 .0 .few), s .pre .1 .0 .symbols (l .i) h, s .pre .1 .0 .rows-room)
 
 add-i : tie.Need-add-i Inv-loop μ-loop
 add-i c =
-    omega (arith, c .before .before .before .before .before .before .before .before .before .before .before .before .loop-test .taken, c .before .before .before .before .before .before .before .before .before .before .before .before .before .before .before .before .before .before .before .before .before .pre .1 .0 .tape-fits)
+    let half = c .before .before .before .before .before .before .before .before .before .before in
+    let s = half .before .before .before .before .before .before .before .before .before .before .before in
+    let loop-test = c .before .before .before .before .before .before .before .before .before .before .before .before .loop-test in
+    omega (arith, loop-test .taken, s .pre .1 .0 .tape-fits)
 
 loop-less : tie.Need-loop-less Inv-loop μ-loop
 loop-less c = search needs
 
 loop-again : tie.Need-loop-again Inv-loop μ-loop
 loop-again c =
-    let a = c .before .before .before .before .before .before .before .before .before .before .before .before .before .before .before .before .before .before .before .before .before .args in
+    let loop-test = c .before .before .before .before .before .before .before .before .before .before .before .before .loop-test in
+    let half = c .before .before .before .before .before .before .before .before .before .before in
+    let s = half .before .before .before .before .before .before .before .before .before .before .before in
+    let a = s .args in
     let l = c .before .before .before .before .before .before .before .before .before .before .before .before .before .loop in
     let p = c .before .before .before .before .before .before .write-position in
-    let h : l .i < length (a .tape .now) = c .before .before .before .before .before .before .before .before .before .before .before .before .loop-test .taken in (
-      forth-turn (a .book .now) (a .tape .now) (a .rows .now) (a .sets .now) (a .scratch .now) (a .out .now) (a .origins .now) (c .before .before .before .before .before .before .before .before .before .before .before .before .before .before .before .before .before .before .before .before .before .pre .1 .0) (l .out) (l .origins) (l .at) (l .taken) (l .end) (l .k) (l .i) (l .inv .0) h (p .result .at) (p .result .end) (p .result .taken) (c .left-entry .result) _ _
-          (forth-room (a .book .now) (a .tape .now) (a .rows .now) (a .sets .now) (a .scratch .now) (a .out .now) (a .origins .now) (c .before .before .before .before .before .before .before .before .before .before .before .before .before .before .before .before .before .before .before .before .before .pre .1 .0) (l .out) (l .origins) (l .at) (l .taken) (l .end) (l .k) (l .i) (l .inv .0) h (c .before .before .before .before .before .before .before .before .before .before .before .before .before .before .before .before .before .before .before .before .before .pre .1 .1 .0) (c .before .before .before .before .before .before .before .before .before .before .before .before .before .before .before .before .before .before .before .before .before .pre .1 .1 .1))
-          (p .ensures .0) (c .left-entry .ensures),
+    let h : l .i < length (a .tape .now) = loop-test .taken in
+    let fit =
+    forth-fits (a .book .now) (a .tape .now) (a .rows .now) (a .sets .now) (a .scratch .now) (a .out .now) (a .origins .now) (s .pre .1 .0)
+    (l .out) (l .origins) (l .at) (l .taken) (l .end) (l .k) (l .i) (l .inv .0) h (s .pre .1 .1 .0) (s .pre .1 .1 .1) in (
+      forth-turn (a .book .now) (a .tape .now) (a .rows .now) (a .sets .now) (a .scratch .now) (a .out .now) (a .origins .now) (s .pre .1 .0)
+          (l .out) (l .origins) (l .at) (l .taken) (l .end) (l .k) (l .i) (l .inv .0) h
+          (p .result .at) (p .result .end) (p .result .taken) _ _ fit (p .ensures .0) (c .left-entry .result) (c .left-entry .ensures),
       p .ensures .1,
     )
 
@@ -83,13 +103,17 @@ same-length-2 c = search needs
 
 returns : tie.Need-returns Inv-loop μ-loop
 returns c =
-    let a = c .before .before .before .before .before .before .before .before .before .args in
+    let s = c .before .before .before .before .before .before .before .before .before in
+    let a = s .args in
     let l = c .before .loop in
     let z : length (a .tape .now) ≤ l .i = omega arith in (
-      counted-end (a .book .now) (a .tape .now) (a .rows .now) (a .sets .now) (a .scratch .now) (c .before .before .before .before .before .before .before .before .before .pre .1 .0) (l .at) (l .taken) (l .end) (l .k) (l .i) (l .inv .0 .counted) z,
+      forth-sized (a .book .now) (a .tape .now) (a .rows .now) (a .sets .now) (a .scratch .now) (a .out .now) (a .origins .now) (s .pre .1 .0)
+          (l .out) (l .origins) (l .at) (l .taken) (l .end) (l .k) (l .i) (l .inv .0) z,
       (
-        forth-outs (a .book .now) (a .tape .now) (a .rows .now) (a .sets .now) (a .scratch .now) (a .out .now) (a .origins .now) (c .before .before .before .before .before .before .before .before .before .pre .1 .0) (l .out) (l .origins) (l .at) (l .taken) (l .end) (l .k) (l .i) (l .inv .0) z,
-        forth-orgs (a .book .now) (a .tape .now) (a .rows .now) (a .sets .now) (a .scratch .now) (a .out .now) (a .origins .now) (c .before .before .before .before .before .before .before .before .before .pre .1 .0) (l .out) (l .origins) (l .at) (l .taken) (l .end) (l .k) (l .i) (l .inv .0) z,
+        forth-outs (a .book .now) (a .tape .now) (a .rows .now) (a .sets .now) (a .scratch .now) (a .out .now) (a .origins .now) (s .pre .1 .0)
+            (l .out) (l .origins) (l .at) (l .taken) (l .end) (l .k) (l .i) (l .inv .0) z,
+        forth-orgs (a .book .now) (a .tape .now) (a .rows .now) (a .sets .now) (a .scratch .now) (a .out .now) (a .origins .now) (s .pre .1 .0)
+            (l .out) (l .origins) (l .at) (l .taken) (l .end) (l .k) (l .i) (l .inv .0) z,
       ),
     )
 

@@ -35,7 +35,8 @@ right-entry-requires c κs =
 
 slice-write-scratch-2 : tie.Need-slice-write-scratch-2 Inv-loop μ-loop
 slice-write-scratch-2 c =
-    let a = c .before .before .before .before .before .before .before .args in
+    let s = c .before .before .before .before .before .before .before in
+    let a = s .args in
     omega (arith, length-set (a .scratch .now) (length (a .tape .now)) 0)
 
 loop-less : tie.Need-loop-less Inv-loop μ-loop
@@ -43,7 +44,8 @@ loop-less c = search needs
 
 loop-again : tie.Need-loop-again Inv-loop μ-loop
 loop-again c =
-    let a = c .before .before .before .before .before .before .before .args in
+    let s = c .before .before .before .before .before .before .before in
+    let a = s .args in
     let l = c .before .before .before .loop in
     let r = c .right-entry in
     filled-turn (a .rows .now) (a .tape .now) (set (a .scratch .now) (length (a .tape .now)) 0) (l .scratch) (l .i) (l .i - 1) (l .number) (r .result)
@@ -51,13 +53,16 @@ loop-again c =
 
 same-length : tie.Need-same-length Inv-loop μ-loop
 same-length c =
-    let a = c .before .before .before .before .before .args in
+    let s = c .before .before .before .before .before in
+    let a = s .args in
     omega (arith, length-set (a .scratch .now) (length (a .tape .now)) 0)
 
 returns : tie.Need-returns Inv-loop μ-loop
 returns c =
-    let a = c .before .before .before .before .before .args in
-    filled-end (a .rows .now) (a .tape .now) (a .scratch .now) (c .before .loop .scratch) (c .before .loop .i) (c .before .loop .number) (omega arith) (c .before .loop .inv)
+    let s = c .before .before .before .before .before in
+    let a = s .args in
+    filled-end (a .rows .now) (a .tape .now) (a .scratch .now) (c .before .loop .scratch) (c .before .loop .i) (c .before .loop .number) (omega arith)
+    (c .before .loop .inv)
 
 pub backward-spec : {M : Type 1} → statement M
 backward-spec =

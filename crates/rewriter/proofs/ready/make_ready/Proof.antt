@@ -1,5 +1,5 @@
 -- `rewriter::ready::make_ready` meets its contract: its three ways out are those of the definition. Assumes nothing.
-use Rattle.rewriter.proofs.MakeReady.{leaves-refused, opening-passed, leaves-unbuilt, leaves-ready}
+use Rattle.rewriter.proofs.MakeReady.{leaves-refused, opening-admitted, leaves-unbuilt, leaves-ready}
 use native.Mathlib.Omega.{arith}
 use borrow.Author.Needs.{needs}
 use Rattle.rewriter.proofs.ready.make_ready.Statement.{statement}
@@ -10,13 +10,19 @@ early-requires c κs = search needs
 
 returns : tie.Need-returns
 returns c =
-    let a = c .before .before .before .before .before .before .before .before .args in
-    leaves-refused (a .book .now) (a .tape .now) (a .rows .now) (a .sets .now) (a .scratch .now) (c .before .before .early .result) (c .before .before .early .ensures) (c .if1 .taken)
+    let s = c .before .before .before .before .before .before .before .before in
+    let early = c .before .before .early in
+    let a = s .args in
+    leaves-refused (a .book .now) (a .tape .now) (a .rows .now) (a .sets .now) (a .scratch .now) (early .result) (early .ensures) (c .if1 .taken)
 
 number-book-requires : tie.Need-number-book-requires
 number-book-requires c κs =
-    let a = c .before .before .before .before .before .before .before .before .before .before .args in
-    let p = opening-passed (a .book .now) (a .tape .now) (a .rows .now) (a .sets .now) (a .scratch .now) (c .before .before .before .before .early .result) (c .before .before .before .before .early .ensures) (c .before .before .if1 .left) in
+    let s = c .before .before .before .before .before .before .before .before .before .before in
+    let early = c .before .before .before .before .early in
+    let a = s .args in
+    let p =
+    opening-admitted (a .book .now) (a .tape .now) (a .rows .now) (a .sets .now) (a .scratch .now) (early .result) (early .ensures)
+    (c .before .before .if1 .left) in
     (p .accepted, (p .rows-room, p .sets-room))
 
 answer-requires : tie.Need-answer-requires
@@ -30,15 +36,24 @@ same-length-2 c = search needs
 
 returns-2 : tie.Need-returns-2
 returns-2 c =
-    let a = c .before .before .before .before .before .before .before .before .before .before .before .before .before .before .before .before .before .before .args in
-    leaves-unbuilt (a .book .now) (a .tape .now) (a .rows .now) (a .sets .now) (a .scratch .now) (c .before .before .before .before .before .before .before .before .before .before .before .before .early .result) (c .before .before .before .before .before .before .before .before .before .before .before .before .early .ensures) (c .before .before .before .before .before .before .before .before .before .before .if1 .left)
-    (c .before .before .before .before .before .before .before .number-book .result) _ _ (c .before .before .before .before .before .before .before .number-book .ensures) (c .answer .result) (c .before .if2 .taken) (c .answer .ensures)
+    let s = c .before .before .before .before .before .before .before .before .before .before .before .before .before .before .before .before .before .before in
+    let early = c .before .before .before .before .before .before .before .before .before .before .before .before .early in
+    let if1 = c .before .before .before .before .before .before .before .before .before .before .if1 in
+    let number-book = c .before .before .before .before .before .before .before .number-book in
+    let a = s .args in
+    leaves-unbuilt (a .book .now) (a .tape .now) (a .rows .now) (a .sets .now) (a .scratch .now) (early .result) (early .ensures) (if1 .left)
+    (number-book .result) _ _ (number-book .ensures) (c .answer .result) (c .before .if2 .taken) (c .answer .ensures)
 
 backward-requires : tie.Need-backward-requires
 backward-requires c κs =
-    let a = c .before .before .before .before .before .before .before .before .before .before .before .before .before .before .before .before .before .before .before .args in
-    let p = opening-passed (a .book .now) (a .tape .now) (a .rows .now) (a .sets .now) (a .scratch .now) (c .before .before .before .before .before .before .before .before .before .before .before .before .before .early .result) (c .before .before .before .before .before .before .before .before .before .before .before .before .before .early .ensures) (c .before .before .before .before .before .before .before .before .before .before .before .if1 .left) in
-    (p .scratch-room, (omega (arith, p .rows-room), p .symbols))
+    let half = c .before .before .before .before .before .before .before .before .before in
+    let s = half .before .before .before .before .before .before .before .before .before .before in
+    let early = c .before .before .before .before .before .before .before .before .before .before .before .before .before .early in
+    let if1 = c .before .before .before .before .before .before .before .before .before .before .before .if1 in
+    let a = s .args in
+    let p = opening-admitted (a .book .now) (a .tape .now) (a .rows .now) (a .sets .now) (a .scratch .now) (early .result) (early .ensures) (if1 .left) in
+    let built = c .before .before .before .before .before .before .before .before .number-book in
+    (p .scratch-room, (omega (arith, p .rows-room, built .kept), p .symbols))
 
 answer-requires-2 : tie.Need-answer-requires-2
 answer-requires-2 c κs = search needs
@@ -54,9 +69,16 @@ same-length-5 c = search needs
 
 returns-3 : tie.Need-returns-3
 returns-3 c =
-    let a = c .before .before .before .before .before .before .before .before .before .before .before .before .before .before .before .before .before .before .before .before .before .before .before .args in
-    leaves-ready (a .book .now) (a .tape .now) (a .rows .now) (a .sets .now) (a .scratch .now) (c .before .before .before .before .before .before .before .before .before .before .before .before .before .before .before .before .before .early .result) (c .before .before .before .before .before .before .before .before .before .before .before .before .before .before .before .before .before .early .ensures) (c .before .before .before .before .before .before .before .before .before .before .before .before .before .before .before .if1 .left)
-    (c .before .before .before .before .before .before .before .before .before .before .before .before .number-book .result) _ _ (c .before .before .before .before .before .before .before .before .before .before .before .before .number-book .ensures) (c .answer2 .result) (c .before .before .before .before .before .before .if2 .left) _ (c .before .before .before .backward .ensures) (c .answer2 .ensures)
+    let half = c .before .before .before .before .before .before .before .before .before .before .before in
+    let s = half .before .before .before .before .before .before .before .before .before .before .before .before in
+    let early =
+    c .before .before .before .before .before .before .before .before .before .before .before .before .before .before .before .before .before .early in
+    let if1 = c .before .before .before .before .before .before .before .before .before .before .before .before .before .before .before .if1 in
+    let number-book = c .before .before .before .before .before .before .before .before .before .before .before .before .number-book in
+    let if2 = c .before .before .before .before .before .before .if2 in
+    let a = s .args in
+    leaves-ready (a .book .now) (a .tape .now) (a .rows .now) (a .sets .now) (a .scratch .now) (early .result) (early .ensures) (if1 .left)
+    (number-book .result) _ _ (number-book .ensures) (c .answer2 .result) (if2 .left) _ (c .before .before .before .backward .ensures) (c .answer2 .ensures)
 
 pub make-ready-spec : {M : Type 1} → statement M
 make-ready-spec =

@@ -1,4 +1,5 @@
--- `rewriter::refusals::first_bad` meets its contract: no symbol is bad where the greatest is not; else what is passed and what is left give the first bad place of the whole tape. Assumes nothing.
+-- `rewriter::refusals::first_bad` meets its contract: no symbol is bad where the greatest is not; else what is passed and what is left give the
+-- first bad place of the whole tape. Assumes nothing.
 use Prim.Native.Nat.{_+_, _-_, _≤_}
 use mathlib.Core.Path.{_≡_}
 use native.Mathlib.Omega.{arith}
@@ -31,7 +32,8 @@ shared-slice-read-if2 c = search needs
 
 returns-2 : tie.Need-returns-2 Inv-loop μ-loop
 returns-2 c =
-    omega (arith, bad-here (c .before .before .before .before .before .before .before .args .tape .now) (c .before .before .before .loop .i) (omega arith) (omega arith))
+    let s = c .before .before .before .before .before .before .before in
+    omega (arith, bad-here (s .args .tape .now) (c .before .before .before .loop .i) (omega arith) (omega arith))
 
 add-i : tie.Need-add-i Inv-loop μ-loop
 add-i c = search needs
@@ -41,11 +43,13 @@ loop-less c = search needs
 
 loop-again : tie.Need-loop-again Inv-loop μ-loop
 loop-again c =
-    omega (arith, bad-later (c .before .before .before .before .before .before .before .args .tape .now) (c .before .before .before .loop .i) (omega arith) (omega arith))
+    let s = c .before .before .before .before .before .before .before in
+    omega (arith, bad-later (s .args .tape .now) (c .before .before .before .loop .i) (omega arith) (omega arith))
 
 returns-3 : tie.Need-returns-3 Inv-loop μ-loop
 returns-3 c =
-    omega (arith, bad-end (c .before .before .before .before .before .args .tape .now) (c .before .loop .i) (omega arith))
+    let s = c .before .before .before .before .before in
+    omega (arith, bad-end (s .args .tape .now) (c .before .loop .i) (omega arith))
 
 pub first-bad-spec : {M : Type 1} → statement M
 first-bad-spec =

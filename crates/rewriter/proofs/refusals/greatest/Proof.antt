@@ -29,7 +29,8 @@ loop-less c = search needs
 
 loop-again : tie.Need-loop-again Inv-loop μ-loop
 loop-again c =
-    let t = c .before .before .before .before .args .tape .now in
+    let s = c .before .before .before .before in
+    let t = s .args .tape .now in
     let l = c .before .before .before .loop in
     topped-more 0 t (l .top) (l .i) (l .inv) (c .before .before .loop-test .taken) _ refl (c .if1 .taken)
 
@@ -38,7 +39,8 @@ loop-less-2 c = search needs
 
 loop-again-2 : tie.Need-loop-again-2 Inv-loop μ-loop
 loop-again-2 c =
-    let t = c .before .before .before .before .args .tape .now in
+    let s = c .before .before .before .before in
+    let t = s .args .tape .now in
     let l = c .before .before .before .loop in
     topped-less 0 t (l .top) (l .i) (l .inv) (c .before .before .loop-test .taken) _ refl (omega arith)
 

@@ -39,18 +39,33 @@ wide-requires-2 c κs = search needs
 
 returns-2 : tie.Need-returns-2
 returns-2 c =
-    let a = c .before .before .before .before .before .before .before .args in
-    (bounds-empty (a .n) (a .lines .now) (a .line) (c .before .before .before .wide .result) (c .before .wide2 .result) (omega arith) (c .before .before .before .wide .ensures) (c .before .wide2 .ensures) (omega arith), (omega arith, omega arith))
+    let s = c .before .before .before .before .before .before .before in
+    let wide = c .before .before .before .wide in
+    let a = s .args in (
+      bounds-empty (a .n) (a .lines .now) (a .line) (wide .result) (c .before .wide2 .result) (omega arith) (wide .ensures) (c .before .wide2 .ensures)
+          (omega arith),
+      (omega arith, omega arith),
+    )
 
 returns-3 : tie.Need-returns-3
 returns-3 c =
-    let a = c .before .before .before .before .before .before .before .before .args in
-    (bounds-past (a .n) (a .lines .now) (a .line) (c .before .before .before .before .wide .result) (c .before .before .wide2 .result) (omega arith) (c .before .before .before .before .wide .ensures) (c .before .before .wide2 .ensures) (omega arith) (omega arith), (omega arith, omega arith))
+    let s = c .before .before .before .before .before .before .before .before in
+    let wide = c .before .before .before .before .wide in
+    let wide2 = c .before .before .wide2 in
+    let a = s .args in (
+      bounds-past (a .n) (a .lines .now) (a .line) (wide .result) (wide2 .result) (omega arith) (wide .ensures) (wide2 .ensures) (omega arith) (omega arith),
+      (omega arith, omega arith),
+    )
 
 returns-4 : tie.Need-returns-4
 returns-4 c =
-    let a = c .before .before .before .before .before .before .before .before .args in
-    (bounds-stretch (a .n) (a .lines .now) (a .line) (c .before .before .before .before .wide .result) (c .before .before .wide2 .result) (omega arith) (c .before .before .before .before .wide .ensures) (c .before .before .wide2 .ensures) (omega arith) (omega arith), (omega arith, omega arith))
+    let s = c .before .before .before .before .before .before .before .before in
+    let wide = c .before .before .before .before .wide in
+    let wide2 = c .before .before .wide2 in
+    let a = s .args in (
+      bounds-stretch (a .n) (a .lines .now) (a .line) (wide .result) (wide2 .result) (omega arith) (wide .ensures) (wide2 .ensures) (omega arith) (omega arith),
+      (omega arith, omega arith),
+    )
 
 pub bounds-of-spec : {M : Type 1} → statement M
 bounds-of-spec =
