@@ -38,7 +38,8 @@ unfolding accepts isStart isAccept
 same-words b A B e r part w =
     λ i. someState b (λ (p : ℕ). isStart b r part p && someState b (λ (q : ℕ). isAccept b r part q && same-runs A B e p w q i))
 
-pub no-states : (b : Book) (r part : ℕ) → ((s : ℕ) → s < length (b .states) → (eqb (stateOf b s .rule) r && eqb (stateOf b s .part) part) ≡ false) → (w : List ℕ) → accepts b r part w ≡ false
+pub no-states : (b : Book) (r part : ℕ) → ((s : ℕ) → s < length (b .states) → (eqb (stateOf b s .rule) r && eqb (stateOf b s .part) part) ≡ false)
+    → (w : List ℕ) → accepts b r part w ≡ false
 unfolding accepts isStart
 no-states b r part none w = same-test (accepts b r part w) false (no-one, λ t. absurd t)
   where

@@ -86,7 +86,9 @@ pub extern "C" fn qafrendi_rewrite(
     out: &mut [u8],
     origins: &mut [u16],
 ) -> CRewritten
-    ensures { λ r. ⌜ rewriteLeaves (plainRewritten r) (now (rows .exit)) (now (sets .exit)) (now (scratch .exit)) (now (out .exit)) (now (origins .exit)) ≡ rewriteDef (now (book .entry)) (now (tape .entry)) (now (rows .entry)) (now (sets .entry)) (now (scratch .entry)) (now (out .entry)) (now (origins .entry)) ⌝ }
+    ensures { λ r. ⌜ rewriteLeaves (plainRewritten r) (now (rows .exit)) (now (sets .exit)) (now (scratch .exit)) (now (out .exit)) (now (origins .exit))
+        ≡ rewriteDef (now (book .entry)) (now (tape .entry)) (now (rows .entry))
+        (now (sets .entry)) (now (scratch .entry)) (now (out .entry)) (now (origins .entry)) ⌝ }
 {
     let r = rewriter::rewrite(book, tape, rows, sets, scratch, out, origins);
     CRewritten {
@@ -106,7 +108,8 @@ pub extern "C" fn qafrendi_account(
     scratch: &mut [u8],
     lines: &mut [u16],
 ) -> CAccounted
-    ensures { λ r. ⌜ accountLeaves (plainAccounted r) (now (rows .exit)) (now (sets .exit)) (now (scratch .exit)) (now (lines .exit)) ≡ accountDef (now (book .entry)) (now (tape .entry)) (now (rows .entry)) (now (sets .entry)) (now (scratch .entry)) (now (lines .entry)) ⌝ }
+    ensures { λ r. ⌜ accountLeaves (plainAccounted r) (now (rows .exit)) (now (sets .exit)) (now (scratch .exit)) (now (lines .exit))
+        ≡ accountDef (now (book .entry)) (now (tape .entry)) (now (rows .entry)) (now (sets .entry)) (now (scratch .entry)) (now (lines .entry)) ⌝ }
 {
     let r = rewriter::account(book, tape, rows, sets, scratch, lines);
     CAccounted {

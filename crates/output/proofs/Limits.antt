@@ -11,7 +11,7 @@ use native.Mathlib.Decide.{decLt, ℕ-discrete}
 use lib.Dec.{eqb, ltb}
 use lib.ListN.{length, getD, length-append}
 use Rattle.book.specs.Format.{longestWord}
-use Rattle.book.specs.Reading.{wordAt, bookOf}
+use Rattle.book.specs.Reading.{wordAt, checkDef, bookOf}
 use Rattle.book.specs.Language.{Rules, rulesIn}
 use Rattle.stretches.specs.Candidates.{longest, fresh, ruleOf, keep, takenAt, taken}
 use Rattle.stretches.specs.Output.{writtenAt, ruleWord, rewriting}
@@ -128,15 +128,17 @@ module _ (b : Rules) (t : List ℕ) where
         let q = takes-from k (suc i) (endNext b t i end) (omega arith) (at-turn b t i end a) in
         omega (arith, p, q, takes-few i end)
 
--- ---- a tape that is ready
+-- ---- an accepted book, and a tape that is ready
+
+pub accepted-most : (book t : List ℕ) → checkDef book .reply ≡ 0 → length (rewriting (rulesIn book) t) ≤ length t * mostMarks (rulesIn book)
+accepted-most book t h =
+    let b = rulesIn book in
+    omega (arith, ap length (marks-all b t), marks-from b t (no-empty book h) (length t) 0 0 (omega arith) (at-start b t))
 
 module _ (book t rows sets scratch : List ℕ) (ready : Ready book t rows sets scratch) where
   module _ (m : ℕ) (e : m ≡ mostMarks (rulesIn book)) where
     pub output-most : length (rewriting (rulesIn book) t) ≤ length t * m
-    output-most =
-        let b = rulesIn book in
-        let most = marks-from b t (no-empty book (ready .accepted)) (length t) 0 0 (omega arith) (at-start b t) in
-        rw e (omega (arith, ap length (marks-all b t), most))
+    output-most = rw e (accepted-most book t (ready .accepted))
 
     pub most-fits : length t * m ≤ longestTape * longestWord
     most-fits =

@@ -94,7 +94,8 @@ fn write_if_room<'a>(
 ) -> Rewritten
     requires { ⌜ Lent (now book) rules (now places) (now masks) (now words) ⌝ }
     requires { ⌜ Ready (now book) (now tape) (now rows) (now sets) (now scratch) ⌝ }
-    ensures { λ r. ⌜ tapeLeaves r (now (out .exit)) (now (origins .exit)) ≡ tapeDef (rulesIn (now (book .entry))) (now (tape .entry)) (now (out .entry)) (now (origins .entry)) ⌝ }
+    ensures { λ r. ⌜ tapeLeaves r (now (out .exit)) (now (origins .exit))
+        ≡ tapeDef (rulesIn (now (book .entry))) (now (tape .entry)) (now (out .entry)) (now (origins .entry)) ⌝ }
 {
     let room = room_of(out.len(), origins.len());
     let symbols = needed(
@@ -147,7 +148,8 @@ pub fn rewrite_ready(
 ) -> Rewritten
     requires { ⌜ Ready (now book) (now tape) (now rows) (now sets) (now scratch) ⌝ }
     requires { ⌜ rules ≡ length (bookOf (now book) .words) ⌝ }
-    ensures { λ r. ⌜ tapeLeaves r (now (out .exit)) (now (origins .exit)) ≡ tapeDef (rulesIn (now (book .entry))) (now (tape .entry)) (now (out .entry)) (now (origins .entry)) ⌝ }
+    ensures { λ r. ⌜ tapeLeaves r (now (out .exit)) (now (origins .exit))
+        ≡ tapeDef (rulesIn (now (book .entry))) (now (tape .entry)) (now (out .entry)) (now (origins .entry)) ⌝ }
 {
     let outline = outline_of(book);
     let words = place_rules(book);

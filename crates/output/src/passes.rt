@@ -139,7 +139,8 @@ pub struct Spot {
 // Writes a kept symbol: "a kept symbol its own position".
 fn keep(tape: &[u8], i: usize, out: &mut [u8], origins: &mut [u16], at: usize, taken: usize) -> Spot
     requires { ⌜ (i < length (now tape)) × (i < longestTape) × (at < length (now out)) × (at < length (now origins)) ⌝ }
-    ensures { λ r. ⌜ KeptPut (getD (now (tape .entry)) i 0) i at taken (now (out .entry)) (now (origins .entry)) (r .at) (r .end) (r .taken) (now (out .exit)) (now (origins .exit)) ⌝ }
+    ensures { λ r. ⌜ KeptPut (getD (now (tape .entry)) i 0) i at taken (now (out .entry)) (now (origins .entry))
+        (r .at) (r .end) (r .taken) (now (out .exit)) (now (origins .exit)) ⌝ }
 {
     out[at] = tape[i];
     origins[at] = i as u16;
@@ -173,7 +174,8 @@ fn write_position(
     requires { ⌜ (i < length (now tape)) × (i < longestTape) × (left ≡ leftAt (bookOf (now book)) (now tape) i) × (s .taken ≤ longestTape) ⌝ }
     requires { ⌜ MarksFit (rulesIn (now book)) (now tape) i (s .at) (s .end) (now out) (now origins) ⌝ }
     requires { ⌜ Remembers (bookOf (now book)) (now steps) (now symbols) ⌝ }
-    ensures { λ r. ⌜ MarksPut (rulesIn (now (book .entry))) (now (tape .entry)) i (s .at) (s .end) (s .taken) (now (out .entry)) (now (origins .entry)) (r .at) (r .end) (r .taken) (now (out .exit)) (now (origins .exit)) ⌝ }
+    ensures { λ r. ⌜ MarksPut (rulesIn (now (book .entry))) (now (tape .entry)) i (s .at) (s .end) (s .taken) (now (out .entry)) (now (origins .entry))
+        (r .at) (r .end) (r .taken) (now (out .exit)) (now (origins .exit)) ⌝ }
     ensures { λ _. ⌜ Remembers (bookOf (now (book .entry))) (now (steps .exit)) (now (symbols .exit)) ⌝ }
 {
     let at = s.at;
@@ -236,7 +238,8 @@ pub(crate) fn forward(
 ) -> Size
     requires { ⌜ Lent (now book) rules (now places) (now masks) (now words) ⌝ }
     requires { ⌜ Ready (now book) (now tape) (now rows) (now sets) (now scratch) ⌝ }
-    requires { ⌜ (length (rewriting (rulesIn (now book)) (now tape)) ≤ length (now out)) × (length (rewriting (rulesIn (now book)) (now tape)) ≤ length (now origins)) ⌝ }
+    requires { ⌜ (length (rewriting (rulesIn (now book)) (now tape)) ≤ length (now out))
+        × (length (rewriting (rulesIn (now book)) (now tape)) ≤ length (now origins)) ⌝ }
     ensures { λ r. ⌜ Sized (rulesIn (now (book .entry))) (now (tape .entry)) (r .length) (r .taken) ⌝ }
     ensures { λ _. ⌜ now (out .exit) ≡ onto (symbolsOf (rewriting (rulesIn (now (book .entry))) (now (tape .entry)))) (now (out .entry)) ⌝ }
     ensures { λ _. ⌜ now (origins .exit) ≡ onto (originsOf (rewriting (rulesIn (now (book .entry))) (now (tape .entry)))) (now (origins .entry)) ⌝ }

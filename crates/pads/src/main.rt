@@ -18,7 +18,7 @@ const KEPT: usize = LONGEST_TAPE + 1;
 
 const SCRATCH: usize = LONGEST_TAPE + 1;
 
-// The house book's words have one symbol and its foci one or more, so that no output is longer than its tape.
+// No output of the house book is longer than its tape (`house-fits` of proofs/HouseFits).
 const OUT: usize = LONGEST_TAPE;
 
 // "It gives the account 6,000 words."

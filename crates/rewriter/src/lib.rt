@@ -33,7 +33,9 @@ pub fn rewrite(
     out: &mut [u8],
     origins: &mut [u16],
 ) -> Rewritten
-    ensures { λ r. ⌜ rewriteLeaves r (now (rows .exit)) (now (sets .exit)) (now (scratch .exit)) (now (out .exit)) (now (origins .exit)) ≡ rewriteDef (now (book .entry)) (now (tape .entry)) (now (rows .entry)) (now (sets .entry)) (now (scratch .entry)) (now (out .entry)) (now (origins .entry)) ⌝ }
+    ensures { λ r. ⌜ rewriteLeaves r (now (rows .exit)) (now (sets .exit)) (now (scratch .exit)) (now (out .exit)) (now (origins .exit))
+        ≡ rewriteDef (now (book .entry)) (now (tape .entry)) (now (rows .entry))
+        (now (sets .entry)) (now (scratch .entry)) (now (out .entry)) (now (origins .entry)) ⌝ }
 {
     let opened = ready::make_ready(book, tape, rows, sets, scratch);
     if opened.refusal.reply != 0 {
@@ -56,7 +58,8 @@ pub fn account(
     scratch: &mut [u8],
     lines: &mut [u16],
 ) -> Accounted
-    ensures { λ r. ⌜ accountLeaves r (now (rows .exit)) (now (sets .exit)) (now (scratch .exit)) (now (lines .exit)) ≡ accountDef (now (book .entry)) (now (tape .entry)) (now (rows .entry)) (now (sets .entry)) (now (scratch .entry)) (now (lines .entry)) ⌝ }
+    ensures { λ r. ⌜ accountLeaves r (now (rows .exit)) (now (sets .exit)) (now (scratch .exit)) (now (lines .exit))
+        ≡ accountDef (now (book .entry)) (now (tape .entry)) (now (rows .entry)) (now (sets .entry)) (now (scratch .entry)) (now (lines .entry)) ⌝ }
 {
     let opened = ready::make_ready(book, tape, rows, sets, scratch);
     if opened.refusal.reply != 0 {

@@ -36,7 +36,8 @@ pub(crate) fn make_ready(
     sets: &mut [u64],
     scratch: &mut [u8],
 ) -> Opened
-    ensures { λ r. ⌜ readyLeaves (r .refusal) (now (rows .exit)) (now (sets .exit)) (now (scratch .exit)) ≡ readyDef (now (book .entry)) (now (tape .entry)) (now (rows .entry)) (now (sets .entry)) (now (scratch .entry)) ⌝ }
+    ensures { λ r. ⌜ readyLeaves (r .refusal) (now (rows .exit)) (now (sets .exit)) (now (scratch .exit))
+        ≡ readyDef (now (book .entry)) (now (tape .entry)) (now (rows .entry)) (now (sets .entry)) (now (scratch .entry)) ⌝ }
     ensures { λ r. ⌜ r .rules ≡ checkDef (now (book .entry)) .rules ⌝ }
 {
     let opened = early(book, tape, rows.len(), sets.len(), scratch.len());

@@ -44,7 +44,8 @@ pub fn bounds_of(n: usize, lines: &[u16], line: usize) -> Bounds
 
 pub fn show<'a>(tape: &'a [u8], lines: &[u16], line: usize) -> &'a [u8]
     ensures { λ r. ⌜ now r ≡ showDef (now (tape .entry)) (now (lines .entry)) line ⌝ }
-    ensures { λ r. ⌜ (r .ptr .0 ≡ tape .entry .ptr .0) × (r .ptr .1 ≡ tape .entry .ptr .1 + boundsOf (length (now (tape .entry))) (now (lines .entry)) line .start) ⌝ }
+    ensures { λ r. ⌜ (r .ptr .0 ≡ tape .entry .ptr .0)
+        × (r .ptr .1 ≡ tape .entry .ptr .1 + boundsOf (length (now (tape .entry))) (now (lines .entry)) line .start) ⌝ }
 {
     let b = bounds_of(tape.len(), lines, line);
     let start = b.start;

@@ -58,7 +58,8 @@ fn number_both(
     requires { ⌜ Placed (bookOf (now book) .states) (now places) ⌝ }
     requires { ⌜ SideMasks (bookOf (now book)) «left_starts» «right_accepts» (now «right_starts») (now «focus_accepts») ⌝ }
     requires { ⌜ (rowBytes ≤ length (now rows)) × (setWords ≤ length (now sets)) ⌝ }
-    ensures { λ r. ⌜ buildLeaves r (now (rows .exit)) (now (sets .exit)) ≡ numbered (sideTable (bookOf (now (book .entry))) false) (sideTable (bookOf (now (book .entry))) true) (now (rows .entry)) (now (sets .entry)) ⌝ }
+    ensures { λ r. ⌜ buildLeaves r (now (rows .exit)) (now (sets .exit))
+        ≡ numbered (sideTable (bookOf (now (book .entry))) false) (sideTable (bookOf (now (book .entry))) true) (now (rows .entry)) (now (sets .entry)) ⌝ }
 {
     let left = workspace::number_part(
         book,

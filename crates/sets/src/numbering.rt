@@ -42,7 +42,8 @@ fn number_of(
 ) -> usize
     requires { ⌜ count ≤ length (now sets) ⌝ }
     requires { ⌜ number ≡ idx (take count (now sets)) (closeBy «left_starts» «right_accepts» (now «right_starts») (now «focus_accepts») back last) ⌝ }
-    ensures { λ r. ⌜ r ≡ idx (take count (now (sets .entry))) (closeBy «left_starts» «right_accepts» (now («right_starts» .entry)) (now («focus_accepts» .entry)) back step) ⌝ }
+    ensures { λ r. ⌜ r ≡ idx (take count (now (sets .entry)))
+        (closeBy «left_starts» «right_accepts» (now («right_starts» .entry)) (now («focus_accepts» .entry)) back step) ⌝ }
 {
     if step == last {
         return number;

@@ -90,7 +90,8 @@ pub(crate) fn number_part(
     requires { ⌜ Placed (bookOf (now book) .states) (now places) ⌝ }
     requires { ⌜ SideMasks (bookOf (now book)) «left_starts» «right_accepts» (now «right_starts») (now «focus_accepts») ⌝ }
     requires { ⌜ (row + pairs ≤ length (now rows)) × (set + mostSets ≤ length (now sets)) ⌝ }
-    ensures { λ r. ⌜ NumberedAt (sideTable (bookOf (now (book .entry))) back) r row set (now (rows .entry)) (now (sets .entry)) (now (rows .exit)) (now (sets .exit)) ⌝ }
+    ensures { λ r. ⌜ NumberedAt (sideTable (bookOf (now (book .entry))) back) r row set (now (rows .entry)) (now (sets .entry))
+        (now (rows .exit)) (now (sets .exit)) ⌝ }
 {
     number_side(
         book,
