@@ -51,6 +51,11 @@ module _ (f : ℕ → ℕ) (m whole i n : ℕ) (was : Tally f m whole i n) where
   pub tally-end : m ≤ i → n ≡ whole
   tally-end h = tally-rest (λ k a b. absurd (omega arith))
 
+-- a test counts 1 or 0
+at-most-one : (c : Bool) → cond c 1 0 ≤ 1
+at-most-one true = omega arith
+at-most-one false = omega arith
+
 -- ---- one end
 
 module _ (b : Book) (X R : ℕ) where
@@ -79,11 +84,7 @@ module _ (b : Book) (X R : ℕ) where
 
   pub hit-most : hitCount b X R ≤ length (b .words)
   unfolding hitCount
-  hit-most = let g = sum-most passes 1 (λ r. one (hits b X R r)) 0 (length (b .words)) in omega arith
-    where
-      one : (c : Bool) → cond c 1 0 ≤ 1
-      one true = omega arith
-      one false = omega arith
+  hit-most = let g = sum-most passes 1 (λ r. at-most-one (hits b X R r)) 0 (length (b .words)) in omega arith
 
 -- ---- one start
 
@@ -189,12 +190,8 @@ module _ (book t rows sets scratch : List ℕ) (ready : Ready book t rows sets s
 module _ (b : Book) (o : Sound b) (t : List ℕ) (short : length t ≤ longestTape) where
   end-most : (i j : ℕ) → endCount (rules b) t i j ≤ mostRules
   end-most i j =
-      let g = sum-most (λ (r : ℕ). cond (candidate (rules b) t i j r) 1 0) 1 (λ r. one (candidate (rules b) t i j r)) 0 (length (b .words)) in
+      let g = sum-most (λ (r : ℕ). cond (candidate (rules b) t i j r) 1 0) 1 (λ r. at-most-one (candidate (rules b) t i j r)) 0 (length (b .words)) in
       omega (arith, g, o .rules)
-    where
-      one : (c : Bool) → cond c 1 0 ≤ 1
-      one true = omega arith
-      one false = omega arith
 
   pub start-most : (i : ℕ) → startCount (rules b) t i ≤ mostRules * suc longestTape
   unfolding startCount
