@@ -17,7 +17,7 @@
  * What stood in workspace and scratch before never matters.
  *
  * Stack of a call, with its arguments and return address, measured on the worst inputs known (bench/run stack): check 312 bytes,
- * build 1,240, rewrite 2,952, account 2,920, show 8. No call recurses.
+ * build 1,224, rewrite 2,808, account 2,776, show 8. No call recurses.
  */
 #ifndef QAFRENDI_H
 #define QAFRENDI_H
