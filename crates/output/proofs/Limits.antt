@@ -145,6 +145,13 @@ module _ (book t rows sets scratch : List ℕ) (ready : Ready book t rows sets s
         rw e (mul-le-mul (ready .tape-fits) (most-limit (rulesIn book) longestWord (omega arith)
         (λ r h. sound-of book (ready .accepted) .word r h .short)))
 
+  -- what stands for one position has no more symbols than the longest word
+  pub position-fits : (i end : ℕ) → length (marksAt (rulesIn book) t i end) ≤ longestWord
+  position-fits i end =
+      let b = rulesIn book in
+      let few = marks-few b t (no-empty book (ready .accepted)) i end in
+      omega (arith, few, most-limit b longestWord (omega arith) (λ r h. sound-of book (ready .accepted) .word r h .short))
+
   pub output-fits : length (rewriting (rulesIn book) t) ≤ longestTape * longestWord
   output-fits = omega (arith, output-most (mostMarks (rulesIn book)) refl, most-fits (mostMarks (rulesIn book)) refl)
 

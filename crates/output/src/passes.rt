@@ -1,7 +1,6 @@
 // The output, position after position: its symbol is passed over inside a taken stretch, kept, or replaced by the word of a rule. Where it may
 // not fit it is measured before the first write, so that a refusal leaves the outputs as they were.
 use crate::words::put_word;
-use book::outline::word_length;
 use sets::entries::left_entry;
 use sets::entries::right_set;
 use stretches::outline::ALL_STARTS;
@@ -18,113 +17,7 @@ ghost use Rattle.sets.specs.Sets.{leftAt};
 ghost use Rattle.stretches.specs.Buffers.{longestTape, onto};
 ghost use Rattle.stretches.specs.Output.{rewriting, symbolsOf, originsOf};
 ghost use Rattle.stretches.specs.Ready.{Lent, Ready, RightSets, Remembers};
-ghost use Rattle.output.specs.Passes.{Shared, Sized, KeptPut, MarksFit, MarksPut};
-
-// What one position adds to the output's length.
-pub struct Share {
-    // The symbols that stand for it: 0 inside a stretch, else at most those of the longest word. `measure` sums them up.
-    pub length: usize,
-    // Where the last stretch taken up to it ends, at most the tape's length: the end that `measure` carries to the next position.
-    pub end: usize,
-}
-
-fn share_of(
-    book: &[u8],
-    places: &[u16; book::STATES],
-    masks: &[u64; MASKS],
-    words: &[u16; book::RULES],
-    rules: usize,
-    tape: &[u8],
-    sets: &[u64],
-    scratch: &[u8],
-    i: usize,
-    end: usize,
-    left: u64,
-    steps: &mut [u64; STEPS],
-    symbols: &mut [u8; SLOTS],
-) -> Share
-    requires { ⌜ Lent (now book) rules (now places) (now masks) (now words) ⌝ }
-    requires { ⌜ RightSets (now book) (now tape) (now sets) (now scratch) ⌝ }
-    requires { ⌜ (i < length (now tape)) × (left ≡ leftAt (bookOf (now book)) (now tape) i) ⌝ }
-    requires { ⌜ Remembers (bookOf (now book)) (now steps) (now symbols) ⌝ }
-    ensures { λ r. ⌜ Shared (rulesIn (now (book .entry))) (now (tape .entry)) i 0 end (r .length) (r .end) ⌝ }
-    ensures { λ _. ⌜ Remembers (bookOf (now (book .entry))) (now (steps .exit)) (now (symbols .exit)) ⌝ }
-{
-    if i < end {
-        return Share { length: 0, end };
-    }
-    if right_set(sets, scratch, i) & masks[ALL_STARTS] == 0 {
-        return Share { length: 1, end: i }; // no focus starts here: most positions
-    }
-    let t = taken_at(
-        book,
-        places,
-        masks,
-        rules,
-        tape,
-        sets,
-        scratch,
-        i,
-        left,
-        steps,
-        symbols,
-    );
-    let stop = t.end;
-    let rule = t.rule;
-    if stop == i {
-        return Share { length: 1, end: i };
-    }
-    Share {
-        length: word_length(book, words[rule] as usize),
-        end: stop,
-    }
-}
-
-// The output's length, without writing.
-pub(crate) fn measure(
-    book: &[u8],
-    places: &[u16; book::STATES],
-    masks: &[u64; MASKS],
-    words: &[u16; book::RULES],
-    rules: usize,
-    tape: &[u8],
-    rows: &[u8],
-    sets: &[u64],
-    scratch: &[u8],
-) -> usize
-    requires { ⌜ Lent (now book) rules (now places) (now masks) (now words) ⌝ }
-    requires { ⌜ Ready (now book) (now tape) (now rows) (now sets) (now scratch) ⌝ }
-    ensures { λ r. ⌜ r ≡ length (rewriting (rulesIn (now (book .entry))) (now (tape .entry))) ⌝ }
-{
-    let mut steps = [0u64; STEPS];
-    let mut symbols = [0u8; SLOTS];
-    let mut length = 0;
-    let mut end = 0;
-    let mut k = 0;
-    let mut i = 0;
-    while i < tape.len() {
-        let s = share_of(
-            book,
-            places,
-            masks,
-            words,
-            rules,
-            tape,
-            sets,
-            scratch,
-            i,
-            end,
-            sets[k],
-            &mut steps,
-            &mut symbols,
-        );
-        length += s.length;
-        end = s.end;
-        k = left_entry(rows, k, tape[i]);
-        i += 1;
-    }
-    length
-}
+ghost use Rattle.output.specs.Passes.{Sized, KeptPut, MarksFit, MarksPut};
 
 // How far the writing pass has come.
 pub struct Spot {
@@ -220,6 +113,61 @@ pub struct Size {
     pub length: usize,
     // The stretches taken, at most one a symbol.
     pub taken: usize,
+}
+
+// The output's length. What stands for a position is written where the longest word has room, over what stood for the one before, and only how much
+// it is counts: so what becomes of a position is decided in one place.
+pub(crate) fn measure(
+    book: &[u8],
+    places: &[u16; book::STATES],
+    masks: &[u64; MASKS],
+    words: &[u16; book::RULES],
+    rules: usize,
+    tape: &[u8],
+    rows: &[u8],
+    sets: &[u64],
+    scratch: &[u8],
+) -> usize
+    requires { ⌜ Lent (now book) rules (now places) (now masks) (now words) ⌝ }
+    requires { ⌜ Ready (now book) (now tape) (now rows) (now sets) (now scratch) ⌝ }
+    ensures { λ r. ⌜ r ≡ length (rewriting (rulesIn (now (book .entry))) (now (tape .entry))) ⌝ }
+{
+    let mut steps = [0u64; STEPS];
+    let mut symbols = [0u8; SLOTS];
+    let mut word = [0u8; book::WORD];
+    let mut marks = [0u16; book::WORD];
+    let mut length = 0;
+    let mut end = 0;
+    let mut k = 0;
+    let mut i = 0;
+    while i < tape.len() {
+        let r = write_position(
+            book,
+            places,
+            masks,
+            words,
+            rules,
+            tape,
+            sets,
+            scratch,
+            i,
+            sets[k],
+            Spot {
+                at: 0,
+                end,
+                taken: 0,
+            },
+            &mut steps,
+            &mut symbols,
+            &mut word,
+            &mut marks,
+        );
+        length += r.at;
+        end = r.end;
+        k = left_entry(rows, k, tape[i]);
+        i += 1;
+    }
+    length
 }
 
 // The writing pass, where there is room for the whole output; it counts as it writes.

@@ -1,63 +1,82 @@
--- `passes::measure` meets its contract: the length so far and what is still to come make the whole. Assumes nothing.
+-- `passes::measure` meets its contract: the length so far and what is still to come make the whole, and what stands for a position has room where
+-- the longest word has. Assumes nothing.
 use Prim.Native.Nat.{_+_, _-_, _<_}
+use mathlib.Core.Path.{_≡_}
 use native.Mathlib.Omega.{arith}
 use borrow.Author.Needs.{needs}
 use lib.ListN as L
+use Rattle.book.specs.Format.{longestWord}
 use Rattle.book.specs.Reading.{bookOf}
-use Rattle.stretches.specs.Ready.{Remembers}
 use Rattle.book.specs.Language.{rulesIn}
-use Rattle.output.proofs.Measured.{shared-on, Counted, counted-start, counted-fits, counted-turn, counted-end}
+use Rattle.stretches.specs.Ready.{Remembers}
 use Rattle.stretches.proofs.Scans.{rights-of}
 use Rattle.stretches.proofs.Remembering.{remembers-start}
+use Rattle.output.proofs.Limits.{position-fits}
+use Rattle.output.proofs.Measured.{shared-on, Counted, counted-start, counted-fits, counted-turn, counted-end}
 use Rattle.output.proofs.passes.measure.Statement.{statement}
 use Rattle.output.proofs.passes.measure.Tie as tie
 
 abbrev Inv-loop : tie.InvT-loop
-Inv-loop book places masks words rules tape rows sets scratch steps₀ symbols₀ length₀ end₀ k₀ i₀ steps symbols length end k i =
-    Counted book tape sets length end k i × Remembers (bookOf book) steps symbols
+Inv-loop book places masks words rules tape rows sets scratch steps₀ symbols₀ word₀ marks₀ length₀ end₀ k₀ i₀ steps symbols word marks length end k i =
+    Counted book tape sets length end k i × Remembers (bookOf book) steps symbols × (L.length word ≡ longestWord) × (L.length marks ≡ longestWord)
 
 abbrev μ-loop : tie.MeasureT-loop
-μ-loop book places masks words rules tape rows sets scratch steps₀ symbols₀ length₀ end₀ k₀ i₀ steps symbols length end k i =
+μ-loop book places masks words rules tape rows sets scratch steps₀ symbols₀ word₀ marks₀ length₀ end₀ k₀ i₀ steps symbols word marks length end k i =
     L.length tape - i
 
 loop-holds : tie.Need-loop-holds Inv-loop μ-loop
 loop-holds c =
     let s = c .before .before .before .before .before in
-    let a = s .args in
-    (counted-start (a .book .now) (a .tape .now) (a .rows .now) (a .sets .now) (a .scratch .now) (s .pre .1), remembers-start (bookOf (a .book .now)))
+    let a = s .args in (
+      counted-start (a .book .now) (a .tape .now) (a .rows .now) (a .sets .now) (a .scratch .now) (s .pre .1),
+      remembers-start (bookOf (a .book .now)),
+      search needs,
+      search needs,
+    )
 
-mul-share-of : tie.Need-mul-share-of Inv-loop μ-loop
-mul-share-of c = search needs
+mul-write-position : tie.Need-mul-write-position Inv-loop μ-loop
+mul-write-position c = search needs
 
-shared-slice-read-share-of : tie.Need-shared-slice-read-share-of Inv-loop μ-loop
-shared-slice-read-share-of c =
+shared-slice-read-write-position : tie.Need-shared-slice-read-write-position Inv-loop μ-loop
+shared-slice-read-write-position c =
     let s = c .before .before .before .before .before .before .before .before in
     omega (arith, c .before .before .loop .inv .0 .left .below, s .pre .1 .few, s .pre .1 .sets-room)
 
-share-of-requires : tie.Need-share-of-requires Inv-loop μ-loop
-share-of-requires c κs =
-    let s = c .before .before .before .before .before .before .before .before .before .before in
+slice-aggregate-write-position : tie.Need-slice-aggregate-write-position Inv-loop μ-loop
+slice-aggregate-write-position c = search needs
+
+slice-aggregate-write-position-2 : tie.Need-slice-aggregate-write-position-2 Inv-loop μ-loop
+slice-aggregate-write-position-2 c = search needs
+
+write-position-requires : tie.Need-write-position-requires Inv-loop μ-loop
+write-position-requires c κs =
+    let s = c .before .before .before .before .before .before .before .before .before .before .before .before in
     let a = s .args in
-    let l = c .before .before .before .before .loop in (
+    let l = c .before .before .before .before .before .before .loop in
+    let h : l .i < L.length (a .tape .now) = c .before .before .before .before .before .loop-test .taken in
+    let fit = position-fits (a .book .now) (a .tape .now) (a .rows .now) (a .sets .now) (a .scratch .now) (s .pre .1) (l .i) (l .end) in (
       s .pre .0,
       (
         rights-of (a .book .now) (a .tape .now) (a .rows .now) (a .sets .now) (a .scratch .now) (s .pre .1),
-        ((omega arith, l .inv .0 .left .is), l .inv .1),
+        (
+          (h, omega (arith, s .pre .1 .tape-fits), l .inv .0 .left .is, omega arith),
+          (record { outs = omega (arith, fit, l .inv .2); orgs = omega (arith, fit, l .inv .3) }, l .inv .1),
+        ),
       ),
     )
 
 add-length : tie.Need-add-length Inv-loop μ-loop
 add-length c =
-    let loop-test = c .before .before .before .before .before .loop-test in
-    let s = c .before .before .before .before .before .before .before .before .before .before .before .before in
+    let l = c .before .before .before .before .before .before .before .before .before .before .loop in
+    let loop-test = c .before .before .before .before .before .before .before .before .before .loop-test in
+    let s = c .before .before .before .before .before .before .before .before .before .before .before .before .before .before .before .before in
     let a = s .args in
-    let l = c .before .before .before .before .before .before .loop in
-    let r = c .before .share-of in
-    let d = shared-on (rulesIn (a .book .now)) (a .tape .now) (l .i) (l .end) (r .result .length) (r .result .end) (r .ensures .0) (l .length) in
+    let r = c .before .before .before .write-position in
+    let d = shared-on (rulesIn (a .book .now)) (a .tape .now) (l .i) (l .end) (r .result .at) (r .result .end) (r .ensures .0 .share) (l .length) in
     omega (
       arith,
       counted-fits (a .book .now) (a .tape .now) (a .rows .now) (a .sets .now) (a .scratch .now) (s .pre .1) (l .length) (l .end) (l .k) (l .i)
-          (l .inv .0) (loop-test .taken) (l .length + r .result .length) (r .result .end) d,
+          (l .inv .0) (loop-test .taken) (l .length + r .result .at) (r .result .end) d,
     )
 
 shared-slice-read-left-entry : tie.Need-shared-slice-read-left-entry Inv-loop μ-loop
@@ -65,29 +84,34 @@ shared-slice-read-left-entry c = search needs
 
 left-entry-requires : tie.Need-left-entry-requires Inv-loop μ-loop
 left-entry-requires c κs =
-    let loop-test = c .before .before .before .before .before .before .loop-test in
-    let s = c .before .before .before .before .before .before .before .before .before .before .before .before .before in
-    let l = c .before .before .before .before .before .before .before .loop in
+    let l = c .before .before .before .before .before .before .before .before .before .before .before .loop in
+    let loop-test = c .before .before .before .before .before .before .before .before .before .before .loop-test in
+    let s = c .before .before .before .before .before .before .before .before .before .before .before .before .before .before .before .before .before in
     let h : l .i < L.length (s .args .tape .now) = loop-test .taken in
     (omega (arith, l .inv .0 .left .below, s .pre .1 .few), s .pre .1 .symbols (l .i) h, s .pre .1 .rows-room)
 
 add-i : tie.Need-add-i Inv-loop μ-loop
-add-i c = search needs
+add-i c =
+    let loop-test = c .before .before .before .before .before .before .before .before .before .before .before .loop-test in
+    let s = c .before .before .before .before .before .before .before .before .before .before .before .before .before .before .before .before .before .before in
+    omega (arith, loop-test .taken, s .pre .1 .tape-fits)
 
 loop-less : tie.Need-loop-less Inv-loop μ-loop
 loop-less c = search needs
 
 loop-again : tie.Need-loop-again Inv-loop μ-loop
 loop-again c =
-    let loop-test = c .before .before .before .before .before .before .before .loop-test in
-    let s = c .before .before .before .before .before .before .before .before .before .before .before .before .before .before in
+    let l = c .before .before .before .before .before .before .before .before .before .before .before .before .loop in
+    let loop-test = c .before .before .before .before .before .before .before .before .before .before .before .loop-test in
+    let s = c .before .before .before .before .before .before .before .before .before .before .before .before .before .before .before .before .before .before in
     let a = s .args in
-    let l = c .before .before .before .before .before .before .before .before .loop in
-    let r = c .before .before .before .share-of in
-    let d = shared-on (rulesIn (a .book .now)) (a .tape .now) (l .i) (l .end) (r .result .length) (r .result .end) (r .ensures .0) (l .length) in (
+    let r = c .before .before .before .before .before .write-position in
+    let d = shared-on (rulesIn (a .book .now)) (a .tape .now) (l .i) (l .end) (r .result .at) (r .result .end) (r .ensures .0 .share) (l .length) in (
       counted-turn (a .book .now) (a .tape .now) (a .rows .now) (a .sets .now) (a .scratch .now) (s .pre .1) (l .length) (l .end) (l .k) (l .i)
-          (l .inv .0) (loop-test .taken) (l .length + r .result .length) (r .result .end) d (c .left-entry .result) (c .left-entry .ensures),
+          (l .inv .0) (loop-test .taken) (l .length + r .result .at) (r .result .end) d (c .left-entry .result) (c .left-entry .ensures),
       r .ensures .1,
+      search needs,
+      search needs,
     )
 
 returns : tie.Need-returns Inv-loop μ-loop
@@ -105,9 +129,11 @@ measure-spec =
     Inv-loop
     μ-loop
     loop-holds
-    mul-share-of
-    shared-slice-read-share-of
-    share-of-requires
+    mul-write-position
+    shared-slice-read-write-position
+    slice-aggregate-write-position
+    slice-aggregate-write-position-2
+    write-position-requires
     add-length
     shared-slice-read-left-entry
     left-entry-requires
