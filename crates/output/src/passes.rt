@@ -141,7 +141,7 @@ pub(crate) fn measure(
     let mut k = 0;
     let mut i = 0;
     while i < tape.len() {
-        let r = write_position(
+        let s = write_position(
             book,
             places,
             masks,
@@ -162,8 +162,8 @@ pub(crate) fn measure(
             &mut word,
             &mut marks,
         );
-        length += r.at;
-        end = r.end;
+        length += s.at;
+        end = s.end;
         k = left_entry(rows, k, tape[i]);
         i += 1;
     }
