@@ -1,266 +1,114 @@
-// Runs what document 01 gives and does not mark as proved, and compares: the limits, and every reply number with its place, its counts
-// and what stands in each buffer afterwards. A line a case: ok or WRONG, operation, reply, place.
-ghost use Prim.Native.Nat.{_≤_};
-ghost use lib.ListN.{length};
-ghost use Rattle.tapes.specs.Room.{Room};
+// Runs what document 01 gives of BUILD, REWRITE, ACCOUNT and SHOW and does not mark as proved, and compares: the limits, and every reply number of
+// theirs with its place, its counts and what stands in each buffer afterwards. A line a case: ok or WRONG, operation, reply, place.
+mod pair; // pair.rt: the cases of the book PAIR
 
-mod cases; // cases.rt: the cases
-mod books; // books.rt: the books of the cases
-mod expect; // expect.rt: what must stand in each buffer
-mod hold; // hold.rt: whole buffers compared
-
-use libc::STDOUT_FILENO;
-use rewriter::Accounted;
+use cases::Want;
+use cases::accepted;
+use cases::account_case;
+use cases::ample;
+use cases::books;
+use cases::build_case;
+use cases::expect;
+use cases::expect::LEFT;
+use cases::expect::LONG;
+use cases::expect::RIGHT;
+use cases::expect::UNTOUCHED;
+use cases::front;
+use cases::lend;
+use cases::refused;
+use cases::report;
+use cases::rewrite_case;
 use rewriter::LINE_WORDS;
 use rewriter::LONGEST_TAPE;
-use rewriter::Rewritten;
-use sets::Built;
+use sets::ROW_BYTES;
+use sets::SET_WORDS;
 
-// The room there is: some elements more than the workspace, the scratch of the longest tape, its output and its account need. Every
-// second symbol of that tape becomes two.
-const ROOM_ROWS: usize = sets::ROW_BYTES + 8;
+// The longest tape has so many stretches.
+const STRETCHES: usize = LONGEST_TAPE * (LONGEST_TAPE + 1) / 2;
 
-const ROOM_SETS: usize = sets::SET_WORDS + 8;
-
-pub(crate) const SCRATCH: usize = LONGEST_TAPE + 4;
-
-pub(crate) const OUT: usize = LONGEST_TAPE + LONGEST_TAPE / 2 + 6;
-
-pub(crate) const LINES: usize = LINE_WORDS * (LONGEST_TAPE / 2) + 10;
-
-// What a case must answer; `tables` names what acceptance leaves in the workspace.
-struct Want {
-    tables: u8,
-    reply: u8,
-    place: usize,
-    first: usize,
-    second: usize,
-    third: usize,
-}
-
-// How many elements of each buffer are lent.
-struct Lent {
-    rows: usize,
-    sets: usize,
-    scratch: usize,
-    out: usize,
-    origins: usize,
-    lines: usize,
-}
-
-// What one buffer must hold: which it is, what stands in the workspace, and how far it is written: of the scratch up to and with the
-// tape's length, of the output and the origins the first elements, of an account the first lines.
-struct Expected {
-    buffer: u8,
-    tables: u8,
-    front: usize,
-}
-
-fn report(ok: bool, operation: &[u8], want: Want, note: &[u8]) {
-    if ok {
-        io::write_all(STDOUT_FILENO, b"ok ");
-    } else {
-        io::write_all(STDOUT_FILENO, b"WRONG ");
+// 0 1 0 1 ..
+fn tape_of(tape: &mut [u8]) {
+    let mut i = 0;
+    while i < tape.len() {
+        tape[i] = expect::symbol(i);
+        i += 1;
     }
-    io::write_all(STDOUT_FILENO, operation);
-    io::write_all(STDOUT_FILENO, b" ");
-    io::print_decimal(STDOUT_FILENO, want.reply as u64);
-    io::write_all(STDOUT_FILENO, b" ");
-    io::print_decimal(STDOUT_FILENO, want.place as u64);
-    io::write_all(STDOUT_FILENO, b" ");
-    io::write_all(STDOUT_FILENO, note);
-    io::write_all(STDOUT_FILENO, b"\n");
 }
 
-fn numbers_are(
-    want: Want,
-    reply: u8,
-    place: usize,
-    first: usize,
-    second: usize,
-    third: usize,
-) -> bool {
-    (reply == want.reply)
-        & (place == want.place)
-        & (first == want.first)
-        & (second == want.second)
-        & (third == want.third)
-}
-
-fn check_case(book: &[u8], want: Want, note: &[u8]) {
-    let r = book::check(book);
-    report(
-        numbers_are(want, r.reply, r.place, r.rules, r.states, r.arcs),
-        b"CHECK",
+// More than 256 sets: BUILD, REWRITE and ACCOUNT refuse, also with no room for an output; a scratch that is too short comes first.
+fn unbuilt(book: &[u8], reply: u8, note: &[u8]) {
+    let want = refused(UNTOUCHED, reply, 0);
+    build_case(book, ample(), want, note);
+    rewrite_case(
+        book,
+        &[0, 1],
+        lend(ROW_BYTES, SET_WORDS, 3, 0, 0, 0),
         want,
+        note,
+    );
+    account_case(
+        book,
+        &[0, 1],
+        lend(ROW_BYTES, SET_WORDS, 3, 0, 0, 0),
+        want,
+        note,
+    );
+    rewrite_case(
+        book,
+        &[0, 1],
+        lend(ROW_BYTES, SET_WORDS, 2, 0, 0, 0),
+        refused(UNTOUCHED, 12, 0),
         note,
     );
 }
 
-fn built(rows: &[u8], sets: &[u64], tables: u8) -> bool {
-    let expected = Expected {
-        buffer: expect::ROWS,
-        tables,
-        front: 0,
-    };
-    hold::bytes_hold(rows, expected) & hold::sets_hold(sets, tables)
-}
-
-fn passed(rows: &[u8], sets: &[u64], scratch: &[u8], tables: u8, n: usize) -> bool {
-    let expected = Expected {
-        buffer: expect::SCRATCH,
-        tables,
-        front: n,
-    };
-    built(rows, sets, tables) & hold::bytes_hold(scratch, expected)
-}
-
-fn written(out: &[u8], origins: &[u16], front: usize) -> bool {
-    let symbols = Expected {
-        buffer: expect::OUT,
-        tables: expect::UNTOUCHED,
-        front,
-    };
-    let positions = Expected {
-        buffer: expect::ORIGINS,
-        tables: expect::UNTOUCHED,
-        front,
-    };
-    hold::bytes_hold(out, symbols) & hold::words_hold(origins, positions)
-}
-
-fn listed(lines: &[u16], front: usize) -> bool {
-    let expected = Expected {
-        buffer: expect::LINES,
-        tables: expect::UNTOUCHED,
-        front,
-    };
-    hold::words_hold(lines, expected)
-}
-
-// BUILD with as much of the workspace as is lent.
-fn build(book: &[u8], rows: &mut [u8], sets: &mut [u64], lent: Lent) -> Built
-    requires { ⌜ (lent .rows ≤ length (now rows)) × (lent .sets ≤ length (now sets)) ⌝ }
-{
-    let some_rows = lent.rows;
-    let some_sets = lent.sets;
-    sets::build(book, &mut rows[0..some_rows], &mut sets[0..some_sets])
-}
-
-fn build_case(book: &[u8], lent: Lent, want: Want, note: &[u8])
-    requires { ⌜ Room lent ⌝ }
-{
-    let mut rows = [expect::OLD; ROOM_ROWS];
-    let mut sets = [expect::OLD as u64; ROOM_SETS];
-    let r = build(book, &mut rows, &mut sets, lent);
-    let tables = expect::tables_after(want.reply, want.tables);
-    let ok = built(&rows, &sets, tables) & numbers_are(want, r.reply, r.place, r.left, r.right, 0);
-    report(ok, b"BUILD", want, note);
-}
-
-// REWRITE with as much of each buffer as is lent.
-fn rewrite(
-    book: &[u8],
-    tape: &[u8],
-    rows: &mut [u8],
-    sets: &mut [u64],
-    scratch: &mut [u8],
-    out: &mut [u8],
-    origins: &mut [u16],
-    lent: Lent,
-) -> Rewritten
-    requires { ⌜ (lent .rows ≤ length (now rows)) × (lent .sets ≤ length (now sets)) × (lent .scratch ≤ length (now scratch)) ⌝ }
-    requires { ⌜ (lent .out ≤ length (now out)) × (lent .origins ≤ length (now origins)) ⌝ }
-{
-    let some_rows = lent.rows;
-    let some_sets = lent.sets;
-    let some_scratch = lent.scratch;
-    let some_out = lent.out;
-    let some_origins = lent.origins;
-    rewriter::rewrite(
-        book,
-        tape,
-        &mut rows[0..some_rows],
-        &mut sets[0..some_sets],
-        &mut scratch[0..some_scratch],
-        &mut out[0..some_out],
-        &mut origins[0..some_origins],
-    )
-}
-
-fn rewrite_case(book: &[u8], tape: &[u8], lent: Lent, want: Want, note: &[u8])
-    requires { ⌜ Room lent ⌝ }
-{
-    let mut rows = [expect::OLD; ROOM_ROWS];
-    let mut sets = [expect::OLD as u64; ROOM_SETS];
-    let mut scratch = [expect::OLD; SCRATCH];
-    let mut out = [expect::OLD; OUT];
-    let mut origins = [expect::OLD as u16; OUT];
-    let r = rewrite(
-        book,
-        tape,
-        &mut rows,
-        &mut sets,
-        &mut scratch,
-        &mut out,
-        &mut origins,
-        lent,
+// "A left part that asks for symbol 1 exactly" 8 "places before the present position, with a full range after it", and 9 places
+fn left_cases() {
+    let mut book = [0u8; 100];
+    let n = books::chain(&mut book, book::LEFT, book::RIGHT, 8, 0);
+    build_case(
+        front(&book, n),
+        ample(),
+        accepted(LEFT, 256, 1, 0),
+        b"256 left sets",
     );
-    let tables = expect::tables_after(want.reply, want.tables);
-    let ok = passed(&rows, &sets, &scratch, tables, tape.len())
-        & written(&out, &origins, want.first)
-        & numbers_are(want, r.reply, r.place, r.length, r.taken, 0);
-    report(ok, b"REWRITE", want, note);
+    let m = books::chain(&mut book, book::LEFT, book::RIGHT, 9, 0);
+    unbuilt(front(&book, m), 13, b"512 left sets");
 }
 
-// ACCOUNT with as much of each buffer as is lent.
-fn account(
-    book: &[u8],
-    tape: &[u8],
-    rows: &mut [u8],
-    sets: &mut [u64],
-    scratch: &mut [u8],
-    lines: &mut [u16],
-    lent: Lent,
-) -> Accounted
-    requires { ⌜ (lent .rows ≤ length (now rows)) × (lent .sets ≤ length (now sets)) × (lent .scratch ≤ length (now scratch)) ⌝ }
-    requires { ⌜ lent .lines ≤ length (now lines) ⌝ }
-{
-    let some_rows = lent.rows;
-    let some_sets = lent.sets;
-    let some_scratch = lent.scratch;
-    let some_lines = lent.lines;
-    rewriter::account(
-        book,
-        tape,
-        &mut rows[0..some_rows],
-        &mut sets[0..some_sets],
-        &mut scratch[0..some_scratch],
-        &mut lines[0..some_lines],
-    )
-}
-
-fn account_case(book: &[u8], tape: &[u8], lent: Lent, want: Want, note: &[u8])
-    requires { ⌜ Room lent ⌝ }
-{
-    let mut rows = [expect::OLD; ROOM_ROWS];
-    let mut sets = [expect::OLD as u64; ROOM_SETS];
-    let mut scratch = [expect::OLD; SCRATCH];
-    let mut lines = [expect::OLD as u16; LINES];
-    let r = account(
-        book,
-        tape,
-        &mut rows,
-        &mut sets,
-        &mut scratch,
-        &mut lines,
-        lent,
+// "The mirror image on the right"
+fn right_cases() {
+    let mut book = [0u8; 100];
+    let n = books::chain(&mut book, book::RIGHT, book::LEFT, 8, 7);
+    build_case(
+        front(&book, n),
+        ample(),
+        accepted(RIGHT, 1, 256, 0),
+        b"256 right sets",
     );
-    let tables = expect::tables_after(want.reply, want.tables);
-    let ok = passed(&rows, &sets, &scratch, tables, tape.len())
-        & listed(&lines, want.first)
-        & numbers_are(want, r.reply, r.place, r.candidates, 0, 0);
-    report(ok, b"ACCOUNT", want, note);
+    let m = books::chain(&mut book, book::RIGHT, book::LEFT, 9, 8);
+    unbuilt(front(&book, m), 14, b"512 right sets");
+}
+
+// All symbols of the longest tape become nothing in one stretch; each of its stretches is a candidate.
+fn long_cases() {
+    let book = books::LONG;
+    let mut tape = [0u8; LONGEST_TAPE];
+    tape_of(&mut tape);
+    rewrite_case(
+        &book,
+        &tape,
+        lend(ROW_BYTES, SET_WORDS, LONGEST_TAPE + 1, 0, 0, 0),
+        accepted(LONG, 0, 1, 0),
+        b"an empty output",
+    );
+    account_case(
+        &book,
+        &tape,
+        ample(),
+        refused(LONG, 15, LINE_WORDS * STRETCHES),
+        b"8,390,656 candidates",
+    );
 }
 
 // The part that SHOW hands back of a tape of four symbols, and where it starts. Of the account's lines only the first is whole, in order and
@@ -272,7 +120,7 @@ fn show_case(line: usize, part: &[u8], start: usize, note: &[u8]) {
     let shown = rewriter::show(&tape, &lines, line);
     let ok = check::same(shown, part) & (b.start == start);
     let want = Want {
-        tables: expect::UNTOUCHED,
+        tables: UNTOUCHED,
         reply: 0,
         place: start,
         first: part.len(),
@@ -282,6 +130,18 @@ fn show_case(line: usize, part: &[u8], start: usize, note: &[u8]) {
     report(ok, b"SHOW", want, note);
 }
 
+fn show_cases() {
+    show_case(0, &[6, 7], 1, b"a stretch");
+    show_case(1, &[], 0, b"start not below end");
+    show_case(2, &[], 0, b"end past the tape");
+    show_case(3, &[], 0, b"a cut line");
+    show_case(usize::MAX, &[], 0, b"no such line");
+}
+
 fn main() {
-    cases::all();
+    pair::all();
+    left_cases();
+    right_cases();
+    long_cases();
+    show_cases();
 }

@@ -17,7 +17,7 @@ const NO_WORD: [u8; RULE_SIZE] = [RULE, 0, 0, 0, 0, 0, 0, 0, 0, 0];
 
 // Each 1 becomes 7 8, with no condition on either side. A record a line, the arc's at 22 and the end's at 27; after the book stands one
 // byte more.
-pub(crate) const PAIR: [u8; 29] = *b"\
+pub const PAIR: [u8; 29] = *b"\
     \x01\x02\x07\x08\x00\x00\x00\x00\x00\x00\
     \x02\x00\x03\
     \x02\x01\x01\
@@ -27,10 +27,10 @@ pub(crate) const PAIR: [u8; 29] = *b"\
     \x04\
     \x00";
 
-pub(crate) const PAIR_LENGTH: usize = 28;
+pub const PAIR_LENGTH: usize = 28;
 
 // One or more of any symbol become nothing, with no condition on either side.
-pub(crate) const LONG: [u8; 33] = *b"\
+pub const LONG: [u8; 33] = *b"\
     \x01\x00\x00\x00\x00\x00\x00\x00\x00\x00\
     \x02\x00\x03\
     \x02\x01\x01\
@@ -40,7 +40,7 @@ pub(crate) const LONG: [u8; 33] = *b"\
     \x03\x02\x00\x0f\x02\
     \x04";
 
-pub(crate) fn change(book: &mut [u8], at: usize, b: u8) -> bool {
+pub fn change(book: &mut [u8], at: usize, b: u8) -> bool {
     if at < book.len() {
         book[at] = b;
         return true;
@@ -74,7 +74,7 @@ fn repeat(book: &mut [u8], from: usize, bytes: &[u8], n: usize) -> usize {
 }
 
 // So many rules, states of the last and arcs of the last, from its state 0 to itself; the book's length.
-pub(crate) fn many(book: &mut [u8], rules: usize, states: usize, arcs: usize) -> usize {
+pub fn many(book: &mut [u8], rules: usize, states: usize, arcs: usize) -> usize {
     let mut at = repeat(book, 0, &NO_WORD, rules);
     at = repeat(book, at, &[STATE, LEFT, BOTH], states);
     at = repeat(book, at, &[ARC, 0, 0, LAST_SYMBOL, 0], arcs);
@@ -104,7 +104,7 @@ fn chain_arcs(book: &mut [u8], from: usize, k: u8, asked: u8) -> usize {
 
 // One rule without focus states. States 0 to k are a chain of the part, which asks for symbol 1 at its arc `asked`; state k + 1 is
 // the other condition, which always holds. The book's length.
-pub(crate) fn chain(book: &mut [u8], part: u8, other: u8, k: u8, asked: u8) -> usize
+pub fn chain(book: &mut [u8], part: u8, other: u8, k: u8, asked: u8) -> usize
     requires { ⌜ 0 < k ⌝ }
 {
     let mut at = put(book, 0, &NO_WORD);

@@ -3,8 +3,8 @@ use Prim.Native.Nat.{_-_}
 use mathlib.Core.Path.{_≡_}
 use borrow.Author.Needs.{needs}
 use lib.ListN.{length}
-use Rattle.tapes.proofs.cases.tape_of.Statement.{statement}
-use Rattle.tapes.proofs.cases.tape_of.Tie as tie
+use Rattle.tapes.proofs.tape_of.Statement.{statement}
+use Rattle.tapes.proofs.tape_of.Tie as tie
 
 abbrev Inv-loop : tie.InvT-loop
 Inv-loop tape₀ i₀ tape i = length tape ≡ length tape₀

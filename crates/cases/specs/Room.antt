@@ -1,8 +1,8 @@
--- The lengths that a case lends are within the room that there is: ROOM_ROWS, ROOM_SETS, SCRATCH, OUT and LINES of src/main.rt.
+-- The lengths that a case lends are within the room that there is: ROOM_ROWS, ROOM_SETS, SCRATCH, OUT and LINES of src/lib.rt.
 use Prim.Native.Nat.{_+_, _≤_}
 use Rattle.sets.specs.Workspace.{rowBytes, setWords}
 use Rattle.stretches.specs.Buffers.{longestTape}
-use Rattle.tapes.specs.declared.Lent.{Lent}
+use Rattle.cases.specs.declared.Lent.{Lent}
 
 pub record Room (lent : Lent) : Type 0 where
   pub rows-fit : lent .rows ≤ rowBytes + 8

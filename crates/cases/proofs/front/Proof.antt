@@ -2,8 +2,8 @@
 use borrow.Author.Needs.{needs}
 use native.Mathlib.Omega.{arith}
 use lib.ListN.{length-take}
-use Rattle.tapes.proofs.cases.front.Statement.{statement}
-use Rattle.tapes.proofs.cases.front.Tie as tie
+use Rattle.cases.proofs.front.Statement.{statement}
+use Rattle.cases.proofs.front.Tie as tie
 
 slice-aggregate-result : tie.Need-slice-aggregate-result
 slice-aggregate-result c = simp length-take (omega arith)

@@ -2,8 +2,8 @@
 use Prim.Native.Nat.{_-_, _≤_}
 use borrow.Author.Needs.{needs}
 use lib.ListN.{length}
-use Rattle.tapes.proofs.hold.words_hold.Statement.{statement}
-use Rattle.tapes.proofs.hold.words_hold.Tie as tie
+use Rattle.cases.proofs.hold.words_hold.Statement.{statement}
+use Rattle.cases.proofs.hold.words_hold.Tie as tie
 
 abbrev Inv-loop : tie.InvT-loop
 Inv-loop words e i₀ i = i ≤ length words

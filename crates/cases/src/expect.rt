@@ -10,17 +10,17 @@ use sets::ROW;
 pub(crate) const OLD: u8 = 165;
 
 // What stands in the workspace afterwards: nothing new, all 0, or the tables of a book.
-pub(crate) const UNTOUCHED: u8 = 0;
+pub const UNTOUCHED: u8 = 0;
 
 pub(crate) const CLEARED: u8 = 1;
 
-pub(crate) const PAIR: u8 = 2;
+pub const PAIR: u8 = 2;
 
-pub(crate) const LONG: u8 = 3;
+pub const LONG: u8 = 3;
 
-pub(crate) const LEFT: u8 = 4;
+pub const LEFT: u8 = 4;
 
-pub(crate) const RIGHT: u8 = 5;
+pub const RIGHT: u8 = 5;
 
 // The buffers whose elements are compared, but for the sets.
 pub(crate) const ROWS: u8 = 0;
@@ -143,7 +143,7 @@ pub(crate) fn set(tables: u8, i: usize) -> u64 {
 }
 
 // The tapes are 0 1 0 1 ..
-pub(crate) fn symbol(i: usize) -> u8 {
+pub fn symbol(i: usize) -> u8 {
     (i % 2) as u8
 }
 

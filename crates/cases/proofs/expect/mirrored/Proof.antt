@@ -1,8 +1,8 @@
 -- Eight bits stay eight bits; the measure is the count of bits left. Assumes nothing.
 use Prim.Native.Nat.{_<_}
 use borrow.Author.Needs.{needs}
-use Rattle.tapes.proofs.expect.mirrored.Statement.{statement}
-use Rattle.tapes.proofs.expect.mirrored.Tie as tie
+use Rattle.cases.proofs.expect.mirrored.Statement.{statement}
+use Rattle.cases.proofs.expect.mirrored.Tie as tie
 
 abbrev Inv-loop : tie.InvT-loop
 Inv-loop number from₀ to₀ left₀ from to left = to < 256
