@@ -1,5 +1,6 @@
 // What document 01 says must stand in each buffer after a call, worked out by hand for each book, as a value for each element.
-ghost use Prim.Native.Nat.{_<_};
+ghost use mathlib.Core.Path.{_≡_};
+ghost use Prim.Native.Nat.{_%_, _<_};
 use super::Expected;
 use rewriter::LINE_WORDS;
 use sets::MOST_SETS;
@@ -143,7 +144,9 @@ pub(crate) fn set(tables: u8, i: usize) -> u64 {
 }
 
 // The tapes are 0 1 0 1 ..
-pub fn symbol(i: usize) -> u8 {
+pub fn symbol(i: usize) -> u8
+    ensures { λ r. ⌜ r ≡ i % 2 ⌝ }
+{
     (i % 2) as u8
 }
 

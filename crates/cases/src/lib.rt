@@ -1,7 +1,8 @@
 // A case of the programs checks and tapes: a book, a tape and room are handed to an operation, and its reply with its place, its counts and
 // what stands in each buffer afterwards are compared. It prints a line: ok or WRONG, operation, reply, place.
+ghost use mathlib.Core.Path.{_≡_};
 ghost use Prim.Native.Nat.{_+_, _≤_};
-ghost use lib.ListN.{length};
+ghost use lib.ListN.{length, take};
 ghost use Rattle.sets.specs.Workspace.{rowBytes, setWords};
 ghost use Rattle.stretches.specs.Buffers.{longestTape};
 ghost use Rattle.cases.specs.Room.{Room};
@@ -71,6 +72,7 @@ pub fn lend(
     requires { ⌜ (rows ≤ rowBytes + 8) × (sets ≤ setWords + 8) × (scratch ≤ longestTape + 4) ⌝ }
     requires { ⌜ (out ≤ 6150) × (origins ≤ 6150) × (lines ≤ 10250) ⌝ }
     ensures { λ r. ⌜ Room r ⌝ }
+    ensures { λ r. ⌜ r ≡ record { rows = rows; sets = sets; scratch = scratch; out = out; origins = origins; lines = lines } ⌝ }
 {
     Lent {
         rows,
@@ -85,11 +87,14 @@ pub fn lend(
 // More than any case needs.
 pub fn ample() -> Lent
     ensures { λ r. ⌜ Room r ⌝ }
+    ensures { λ r. ⌜ r ≡ record { rows = rowBytes + 8; sets = setWords + 8; scratch = longestTape + 4; out = 6150; origins = 6150; lines = 10250 } ⌝ }
 {
     lend(ROOM_ROWS, ROOM_SETS, SCRATCH, OUT, OUT, LINES)
 }
 
-pub fn accepted(tables: u8, first: usize, second: usize, third: usize) -> Want {
+pub fn accepted(tables: u8, first: usize, second: usize, third: usize) -> Want
+    ensures { λ r. ⌜ r ≡ record { tables = tables; reply = 0; place = 0; first = first; second = second; third = third } ⌝ }
+{
     Want {
         tables,
         reply: 0,
@@ -101,7 +106,9 @@ pub fn accepted(tables: u8, first: usize, second: usize, third: usize) -> Want {
 }
 
 // "Every refusal returns 0 for these."
-pub fn refused(tables: u8, reply: u8, place: usize) -> Want {
+pub fn refused(tables: u8, reply: u8, place: usize) -> Want
+    ensures { λ r. ⌜ r ≡ record { tables = tables; reply = reply; place = place; first = 0; second = 0; third = 0 } ⌝ }
+{
     Want {
         tables,
         reply,
@@ -113,7 +120,9 @@ pub fn refused(tables: u8, reply: u8, place: usize) -> Want {
 }
 
 // The first n bytes.
-pub fn front<'a>(bytes: &'a [u8], n: usize) -> &'a [u8] {
+pub fn front<'a>(bytes: &'a [u8], n: usize) -> &'a [u8]
+    ensures { λ r. ⌜ now r ≡ take n (now (bytes .entry)) ⌝ }
+{
     if n < bytes.len() {
         return &bytes[..n];
     }

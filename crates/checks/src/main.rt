@@ -1,5 +1,7 @@
-// Runs what document 01 gives of CHECK and does not mark as proved, and compares: the limits, and every reply number of CHECK with its place and
-// its counts, also from BUILD, REWRITE and ACCOUNT, which hand it on. A line a case: ok or WRONG, operation, reply, place.
+// Runs what document 01 gives of books and does not mark as proved, and compares: the limits of records and of sets, and every reply number of CHECK with
+// its place and its counts, also from BUILD, REWRITE and ACCOUNT, which hand it on. A line a case: ok or WRONG, operation, reply, place.
+mod written; // written.rt: books written record by record
+
 use book::SYMBOLS;
 use cases::TOO_LONG;
 use cases::accepted;
@@ -8,10 +10,15 @@ use cases::ample;
 use cases::books;
 use cases::build_case;
 use cases::check_case;
+use cases::expect::LEFT;
+use cases::expect::RIGHT;
 use cases::expect::UNTOUCHED;
 use cases::front;
+use cases::lend;
 use cases::refused;
 use cases::rewrite_case;
+use sets::ROW_BYTES;
+use sets::SET_WORDS;
 
 // A book that CHECK refuses is refused by all, also beside a tape that is too long and has no symbols.
 fn refused_book(book: &[u8], reply: u8, place: usize, note: &[u8]) {
@@ -34,7 +41,7 @@ fn part_refused(book: &[u8], from: usize, to: usize, reply: u8, place: usize, no
 // PAIR from a place up to another, with the byte at a place changed.
 fn edit_case(from: usize, to: usize, at: usize, b: u8, reply: u8, place: usize, note: &[u8]) {
     let mut book = books::PAIR;
-    books::change(&mut book, at, b);
+    written::change(&mut book, at, b);
     part_refused(&book, from, to, reply, place, note);
 }
 
@@ -78,7 +85,7 @@ fn bad_focus_and_end() {
 
 fn most(rules: usize, states: usize, arcs: usize, note: &[u8]) {
     let mut book = [0u8; 3000];
-    let n = books::many(&mut book, rules, states, arcs);
+    let n = written::many(&mut book, rules, states, arcs);
     check_case(
         front(&book, n),
         accepted(UNTOUCHED, rules, states, arcs),
@@ -88,7 +95,7 @@ fn most(rules: usize, states: usize, arcs: usize, note: &[u8]) {
 
 fn too_many(rules: usize, states: usize, arcs: usize, place: usize, note: &[u8]) {
     let mut book = [0u8; 3000];
-    let n = books::many(&mut book, rules, states, arcs);
+    let n = written::many(&mut book, rules, states, arcs);
     refused_book(front(&book, n), 3, place, note);
 }
 
@@ -101,6 +108,61 @@ fn count_cases() {
     too_many(1, 1, 513, 2573, b"513 arcs");
 }
 
+// More than 256 sets: BUILD, REWRITE and ACCOUNT refuse, also with no room for an output; a scratch that is too short comes first.
+fn unbuilt(book: &[u8], reply: u8, note: &[u8]) {
+    let want = refused(UNTOUCHED, reply, 0);
+    build_case(book, ample(), want, note);
+    rewrite_case(
+        book,
+        &[0, 1],
+        lend(ROW_BYTES, SET_WORDS, 3, 0, 0, 0),
+        want,
+        note,
+    );
+    account_case(
+        book,
+        &[0, 1],
+        lend(ROW_BYTES, SET_WORDS, 3, 0, 0, 0),
+        want,
+        note,
+    );
+    rewrite_case(
+        book,
+        &[0, 1],
+        lend(ROW_BYTES, SET_WORDS, 2, 0, 0, 0),
+        refused(UNTOUCHED, 12, 0),
+        note,
+    );
+}
+
+// "A left part that asks for symbol 1 exactly" 8 "places before the present position, with a full range after it", and 9 places
+fn left_cases() {
+    let mut book = [0u8; 100];
+    let n = written::chain(&mut book, book::LEFT, book::RIGHT, 8, 0);
+    build_case(
+        front(&book, n),
+        ample(),
+        accepted(LEFT, 256, 1, 0),
+        b"256 left sets",
+    );
+    let m = written::chain(&mut book, book::LEFT, book::RIGHT, 9, 0);
+    unbuilt(front(&book, m), 13, b"512 left sets");
+}
+
+// "The mirror image on the right"
+fn right_cases() {
+    let mut book = [0u8; 100];
+    let n = written::chain(&mut book, book::RIGHT, book::LEFT, 8, 7);
+    build_case(
+        front(&book, n),
+        ample(),
+        accepted(RIGHT, 1, 256, 0),
+        b"256 right sets",
+    );
+    let m = written::chain(&mut book, book::RIGHT, book::LEFT, 9, 8);
+    unbuilt(front(&book, m), 14, b"512 right sets");
+}
+
 fn main() {
     cut_books();
     unknown_kinds();
@@ -109,4 +171,6 @@ fn main() {
     bad_arcs();
     bad_focus_and_end();
     count_cases();
+    left_cases();
+    right_cases();
 }

@@ -7,13 +7,9 @@ use cases::accepted;
 use cases::account_case;
 use cases::ample;
 use cases::books;
-use cases::build_case;
 use cases::expect;
-use cases::expect::LEFT;
 use cases::expect::LONG;
-use cases::expect::RIGHT;
 use cases::expect::UNTOUCHED;
-use cases::front;
 use cases::lend;
 use cases::refused;
 use cases::report;
@@ -33,61 +29,6 @@ fn tape_of(tape: &mut [u8]) {
         tape[i] = expect::symbol(i);
         i += 1;
     }
-}
-
-// More than 256 sets: BUILD, REWRITE and ACCOUNT refuse, also with no room for an output; a scratch that is too short comes first.
-fn unbuilt(book: &[u8], reply: u8, note: &[u8]) {
-    let want = refused(UNTOUCHED, reply, 0);
-    build_case(book, ample(), want, note);
-    rewrite_case(
-        book,
-        &[0, 1],
-        lend(ROW_BYTES, SET_WORDS, 3, 0, 0, 0),
-        want,
-        note,
-    );
-    account_case(
-        book,
-        &[0, 1],
-        lend(ROW_BYTES, SET_WORDS, 3, 0, 0, 0),
-        want,
-        note,
-    );
-    rewrite_case(
-        book,
-        &[0, 1],
-        lend(ROW_BYTES, SET_WORDS, 2, 0, 0, 0),
-        refused(UNTOUCHED, 12, 0),
-        note,
-    );
-}
-
-// "A left part that asks for symbol 1 exactly" 8 "places before the present position, with a full range after it", and 9 places
-fn left_cases() {
-    let mut book = [0u8; 100];
-    let n = books::chain(&mut book, book::LEFT, book::RIGHT, 8, 0);
-    build_case(
-        front(&book, n),
-        ample(),
-        accepted(LEFT, 256, 1, 0),
-        b"256 left sets",
-    );
-    let m = books::chain(&mut book, book::LEFT, book::RIGHT, 9, 0);
-    unbuilt(front(&book, m), 13, b"512 left sets");
-}
-
-// "The mirror image on the right"
-fn right_cases() {
-    let mut book = [0u8; 100];
-    let n = books::chain(&mut book, book::RIGHT, book::LEFT, 8, 7);
-    build_case(
-        front(&book, n),
-        ample(),
-        accepted(RIGHT, 1, 256, 0),
-        b"256 right sets",
-    );
-    let m = books::chain(&mut book, book::RIGHT, book::LEFT, 9, 8);
-    unbuilt(front(&book, m), 14, b"512 right sets");
 }
 
 // All symbols of the longest tape become nothing in one stretch; each of its stretches is a candidate.
@@ -140,8 +81,6 @@ fn show_cases() {
 
 fn main() {
     pair::all();
-    left_cases();
-    right_cases();
     long_cases();
     show_cases();
 }

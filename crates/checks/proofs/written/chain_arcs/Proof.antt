@@ -3,8 +3,8 @@ use Prim.Native.Nat.{_-_}
 use mathlib.Core.Path.{_≡_}
 use borrow.Author.Needs.{needs}
 use lib.ListN.{length}
-use Rattle.cases.proofs.books.chain_arcs.Statement.{statement}
-use Rattle.cases.proofs.books.chain_arcs.Tie as tie
+use Rattle.checks.proofs.written.chain_arcs.Statement.{statement}
+use Rattle.checks.proofs.written.chain_arcs.Tie as tie
 
 abbrev Inv-loop : tie.InvT-loop
 Inv-loop book₀ from k asked at₀ j₀ book at j = length book ≡ length book₀

@@ -3,8 +3,8 @@ use Prim.Native.Nat.{_-_}
 use mathlib.Core.Path.{_≡_}
 use borrow.Author.Needs.{needs}
 use lib.ListN.{length}
-use Rattle.cases.proofs.books.put.Statement.{statement}
-use Rattle.cases.proofs.books.put.Tie as tie
+use Rattle.checks.proofs.written.put.Statement.{statement}
+use Rattle.checks.proofs.written.put.Tie as tie
 
 abbrev Inv-loop : tie.InvT-loop
 Inv-loop book₀ from bytes at₀ i₀ book at i = length book ≡ length book₀

@@ -3,8 +3,8 @@ use Prim.Native.Nat.{_-_}
 use mathlib.Core.Path.{_≡_}
 use borrow.Author.Needs.{needs}
 use lib.ListN.{length}
-use Rattle.cases.proofs.books.repeat.Statement.{statement}
-use Rattle.cases.proofs.books.repeat.Tie as tie
+use Rattle.checks.proofs.written.repeat.Statement.{statement}
+use Rattle.checks.proofs.written.repeat.Tie as tie
 
 abbrev Inv-loop : tie.InvT-loop
 Inv-loop book₀ from bytes n at₀ i₀ book at i = length book ≡ length book₀
