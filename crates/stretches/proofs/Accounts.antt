@@ -11,10 +11,10 @@ use lib.ListN.{length, length-map}
 use Rattle.book.specs.Language.{Rules}
 use borrow.Author.Tests.{lt-ltb, le-ltb}
 use Rattle.stretches.proofs.Lists.{each-none, each-same, each-only, map-each, keep-yes, taken-each, taken-not}
-use Rattle.stretches.proofs.Sorting.{linesFrom, lines, lines-out, lines-in, lines-sorted}
+use Rattle.stretches.proofs.Sorting.{linesFrom, lines, lines-out, lines-in, lines-sorted, number-in, in-number, sorted-once}
 use Rattle.stretches.specs.Candidates.{candidate, keep, ruleOf, taken}
 use Rattle.stretches.specs.Account.{Line, judge, each, lineFor, linesAt, account}
-use Rattle.stretches.specs.Sentences.{Candidate, Sorted, Takes, Judged, takenLines, lineOf}
+use Rattle.stretches.specs.Sentences.{Candidate, Sorted, Takes, lineNumber, Judged, Decides, takenLines, lineOf}
 use Rattle.stretches.proofs.Walks.{over, tape-over, far-reach, Walked, Place, inside, begins, alone, place}
 use Rattle.stretches.proofs.Stretches.{stretch, tk, tk-inside, tk-alone, tk-begins, taken-list, taken-walked, rule-first}
 use Rattle.stretches.proofs.Rewritings.{walked-one, walked-apart}
@@ -91,8 +91,12 @@ module _ (b : Rules) (t : List ℕ) where
     lower-rule = (λ z. absurd (omega arith), λ z. let h = z .1 in absurd (omega arith));
     inside = (λ z. absurd (omega arith), λ z. absurd (walked-apart b t (out (z .1)) (z .2) (z .3) w));
     one-of = omega arith;
-    deciding-taken = (j, into w);
+    deciding-taken = (j, (into w, refl));
     deciding-own = λ z. refl;
+    rule-own = λ z. sym e;
+    rule-longer = λ z. absurd (omega arith);
+    rule-lower = λ z. absurd (omega arith);
+    rule-around = λ z. absurd (omega arith);
   }
 
   judged-1 : (i j r e : ℕ) → Walked b t i e → j < e → Judged b t (judge i j r 1 i (ruled i e))
@@ -102,8 +106,12 @@ module _ (b : Rules) (t : List ℕ) where
     lower-rule = (λ z. absurd (omega arith), λ z. let a = walked-one b t w (out (z .0)) in absurd (omega arith));
     inside = (λ z. absurd (omega arith), λ z. absurd (walked-apart b t (out (z .1)) (z .2) (z .3) w));
     one-of = omega arith;
-    deciding-taken = (e, into w);
+    deciding-taken = (e, (into w, refl));
     deciding-own = λ z. refl;
+    rule-own = λ z. absurd (omega arith);
+    rule-longer = λ z. (e, (into w, refl), h);
+    rule-lower = λ z. absurd (omega arith);
+    rule-around = λ z. absurd (omega arith);
   }
 
   judged-2 : (i j r : ℕ) → Walked b t i j → ruled i j < r → Judged b t (judge i j r 2 i (ruled i j))
@@ -113,8 +121,12 @@ module _ (b : Rules) (t : List ℕ) where
     lower-rule = (λ z. (into w, h), λ z. refl);
     inside = (λ z. absurd (omega arith), λ z. absurd (walked-apart b t (out (z .1)) (z .2) (z .3) w));
     one-of = omega arith;
-    deciding-taken = (j, into w);
+    deciding-taken = (j, (into w, refl));
     deciding-own = λ z. refl;
+    rule-own = λ z. absurd (omega arith);
+    rule-longer = λ z. absurd (omega arith);
+    rule-lower = λ z. ((into w, refl), h);
+    rule-around = λ z. absurd (omega arith);
   }
 
   judged-3 : (i j r s e : ℕ) → Walked b t s e → s < i → i < e → Judged b t (judge i j r 3 s (ruled s e))
@@ -124,8 +136,12 @@ module _ (b : Rules) (t : List ℕ) where
     lower-rule = (λ z. absurd (omega arith), λ z. absurd (walked-apart b t w h k (out (z .0))));
     inside = (λ z. (e, into w, h, k), λ z. refl);
     one-of = omega arith;
-    deciding-taken = (e, into w);
+    deciding-taken = (e, (into w, refl));
     deciding-own = λ z. absurd (omega arith);
+    rule-own = λ z. absurd (omega arith);
+    rule-longer = λ z. absurd (omega arith);
+    rule-lower = λ z. absurd (omega arith);
+    rule-around = λ z. (e, (into w, refl), h, k);
   }
 
   line-3 : (i j r s e : ℕ) → s < i → over b t i ≡ stretch s e → lineAt i j r ≡ judge i j r 3 s (ruled s e)
@@ -214,3 +230,42 @@ module _ (b : Rules) (t : List ℕ) where
   -- as many lines with verdict 0 as stretches are taken
   pub account-count : length (takenLines (account b t)) ≡ length (taken b t)
   account-count = ap length account-taken ∙ length-map (taken b t) (lineOf b t)
+
+  -- (e) the stretch that decides a line has a line of its own, marked 0, and no other line marked 0 starts there
+  taken-listed : (i j : ℕ) → Walked b t i j → (l : Line) × List·Memᴰ l (account b t) × (l .start ≡ i) × (l .rule ≡ ruled i j) × (l .verdict ≡ 0)
+  taken-listed i j w =
+      let f = rule-first b t i j (w .some) in
+      let a = w .some .cand in
+      let k = f .high in
+      let m = account-in i j (ruled i j) (record { ordered = a .ordered; inside = a .inside; known = omega arith; holds = f .passes }) in
+      (lineAt i j (ruled i j), m, refl, refl, account-judged (lineAt i j (ruled i j)) m .taken-one .1 (into w, refl))
+
+  -- a taken start has one line marked 0
+  abbrev numbered : ℕ → Line
+  numbered = lineNumber (account b t)
+
+  pub marked-once : (j k : ℕ) → j < length (account b t) → k < length (account b t) → numbered j .verdict ≡ 0 → numbered k .verdict ≡ 0
+      → numbered j .start ≡ numbered k .start → j ≡ k
+  marked-once j k h g u v e =
+      let x = account-judged (numbered j) (number-in (account b t) j h) .taken-one .0 u in
+      let y = account-judged (numbered k) (number-in (account b t) k g) .taken-one .0 v in
+      let f = walked-one b t (out (subst (λ (i : ℕ). Takes b t i (numbered j .end)) e (x .0))) (out (y .0)) in
+      sorted-once (account b t) account-sorted j k h g (record { start = e; end = f; rule = x .1 ∙ (λ i. ruled (e i) (f i)) ∙ sym (y .1) })
+
+  pub account-decided : (l : Line) → List·Memᴰ l (account b t) → (k : ℕ) × Decides (account b t) l k
+  account-decided l m =
+      let d = account-judged l m .deciding-taken in
+      let z = taken-listed (l .deciding) (d .0) (out (d .1 .0)) in
+      let n = in-number (account b t) (z .0) (z .1) in
+      let e = n .2 in (
+        n .0,
+        record {
+          within = n .1;
+          marked = ap (λ (x : Line). x .verdict) e ∙ z .4;
+          start = ap (λ (x : Line). x .start) e ∙ z .2;
+          rule = ap (λ (x : Line). x .rule) e ∙ z .3 ∙ sym (d .1 .1);
+        },
+      )
+
+  pub decided-once : (l : Line) (j k : ℕ) → Decides (account b t) l j → Decides (account b t) l k → j ≡ k
+  decided-once l j k x y = marked-once j k (x .within) (y .within) (x .marked) (y .marked) (x .start ∙ sym (y .start))

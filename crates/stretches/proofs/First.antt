@@ -36,6 +36,15 @@ first-miss p a (suc n) d k h = go (p a) refl (first-miss p (suc a) n d (omega ar
     go true q f h = let z : a ≡ d = rw q at h in absurd (omega arith)
     go false q f h = rw q (f (rw q at h))
 
+-- below m, where they all and what stands for none are
+pub first-below : (p : ℕ → Bool) (a n d m : ℕ) → a + n ≤ m → d < m → firstOf p (upFrom a n) d < m
+first-below p a zero d m k h = h
+first-below p a (suc n) d m k h = go (p a) (first-below p (suc a) n d m (omega arith) h)
+  where
+    go : (c : Bool) → firstOf p (upFrom (suc a) n) d < m → cond c a (firstOf p (upFrom (suc a) n) d) < m
+    go true f = omega arith
+    go false f = f
+
 -- x passes, and is at or before each that passes
 pub record FirstPassing (p : ℕ → Bool) (a n x : ℕ) : Type 0 where
   pub low : a ≤ x

@@ -19,11 +19,15 @@ before-other l m (start h) e = let p = e .start in omega arith
 before-other l m (end q h) e = let p = e .end in omega arith
 before-other l m (rule q f h) e = let p = e .rule in omega arith
 
--- so a sorted list has no candidate twice
+-- the lines and their numbers
 pub number-in : (ls : List Line) (k : ℕ) → k < length ls → List·Memᴰ (lineNumber ls k) ls
 number-in [] k h = absurd (omega arith)
 number-in (l ∷ ls) zero h = List·Memᴰ·head refl
 number-in (l ∷ ls) (suc k) h = List·Memᴰ·tail (number-in ls k (omega arith))
+
+pub in-number : (ls : List Line) (l : Line) → List·Memᴰ l ls → (k : ℕ) × (k < length ls) × (lineNumber ls k ≡ l)
+in-number (x ∷ ls) l (List·Memᴰ·head e) = (0, omega arith, sym e)
+in-number (x ∷ ls) l (List·Memᴰ·tail m) = let z = in-number ls l m in let h = z .1 in (suc (z .0), omega arith, z .2)
 
 numbers-before : (ls : List Line) → Sorted ls → (j k : ℕ) → j < k → k < length ls → Before (lineNumber ls j) (lineNumber ls k)
 numbers-before [] p j k h g = absurd (omega arith)
@@ -31,6 +35,7 @@ numbers-before (l ∷ ls) p j zero h g = absurd (omega arith)
 numbers-before (l ∷ ls) p zero (suc k) h g = p .0 (lineNumber ls k) (number-in ls k (omega arith))
 numbers-before (l ∷ ls) p (suc j) (suc k) h g = numbers-before ls (p .1) j k (omega arith) (omega arith)
 
+-- so a sorted list has no candidate twice
 pub sorted-once : (ls : List Line) → Sorted ls → (j k : ℕ) → j < length ls → k < length ls → SameCandidate (lineNumber ls j) (lineNumber ls k) → j ≡ k
 sorted-once ls p j k h g e = by-cases (decLt j k) (λ l. absurd (before-other (lineNumber ls j) (lineNumber ls k) (numbers-before ls p j k l g) e))
     (λ l. by-cases (decLt k j) (λ m. absurd (before-other (lineNumber ls k) (lineNumber ls j) (numbers-before ls p k j m h)

@@ -1,4 +1,5 @@
--- Document 01, "The account and SHOW": "Five 16-bit words a candidate: rule, start, end, verdict, deciding start."
+-- Document 01, "The account and SHOW": the 16-bit words of a candidate, "rule, start, end, verdict, deciding start", and document 02, No. 1:
+-- "A sixth word gives the rule of the deciding stretch (its own for verdict 0)."
 use Prim.Native.Nat.{ℕ, zero, suc, _-_}
 use mathlib.Core.List.{List, [], _∷_, _++_}
 use mathlib.Core.Bool.{cond}
@@ -17,10 +18,12 @@ pub record Line : Type 0 where
   pub verdict : ℕ
   -- where the taken stretch starts that decides, at most `start`
   pub deciding : ℕ
+  -- the rule by which it is taken
+  pub decidingRule : ℕ
 
 -- the line of the candidate from i to j of the rule r, where the stretch that starts at `start` decides by its rule `rule`
 abbrev pub judge : (i j r verdict start rule : ℕ) → Line
-judge i j r verdict start rule = record { rule = r; start = i; end = j; verdict = verdict; deciding = start }
+judge i j r verdict start rule = record { rule = r; start = i; end = j; verdict = verdict; deciding = start; decidingRule = rule }
 
 -- "Verdicts: 0 taken; 1 shorter than the taken one at the same start; 2 same stretch, lower rule taken; 3 start strictly inside a taken
 -- stretch", of the candidate from i to j of the rule r, where the stretch from start to end with its rule decides
@@ -31,7 +34,7 @@ verdictBy i j r start end rule = cond (ltb start i) 3 (cond (ltb j end) 1 (cond 
 abbrev pub verdictOf : Rules → List ℕ → ℕ → ℕ → ℕ → Stretch → ℕ
 verdictOf b t i j r d = verdictBy i j r (d .start) (d .end) (ruleOf b t (d .start) (d .end))
 
--- "The deciding start is that of the taken stretch, its own for 0"
+-- "The deciding start is that of the taken stretch, its own for 0"; "the rule of the deciding stretch (its own for verdict 0)"
 abbrev pub lineFor : Rules → List ℕ → ℕ → ℕ → ℕ → Stretch → Line
 lineFor b t i j r d = judge i j r (verdictOf b t i j r d) (d .start) (ruleOf b t (d .start) (d .end))
 
@@ -50,11 +53,11 @@ account b t = overTape (linesAt b t) b t
 
 -- the words of a line
 abbrev pub lineWords : Line → List ℕ
-lineWords l = l .rule ∷ l .start ∷ l .end ∷ l .verdict ∷ l .deciding ∷ []
+lineWords l = l .rule ∷ l .start ∷ l .end ∷ l .verdict ∷ l .deciding ∷ l .decidingRule ∷ []
 
 -- how many they are, and where each stands
 abbrev pub lineLength : ℕ
-lineLength = 5
+lineLength = 6
 
 abbrev pub lineRule : ℕ
 lineRule = 0
@@ -70,6 +73,9 @@ lineVerdict = 3
 
 abbrev pub lineDeciding : ℕ
 lineDeciding = 4
+
+abbrev pub lineDecidingRule : ℕ
+lineDecidingRule = 5
 
 pub line-length : (l : Line) → length (lineWords l) ≡ lineLength
 line-length l = refl

@@ -33,6 +33,6 @@ inserted = (refl, refl)
 
 -- "At a taken start the longest still wins": the account has the empty candidate and the longer one
 pub longer-wins : (symbolsOf (rewriting (rules bookI) (8 ∷ 5 ∷ [])) ≡ 8 ∷ 7 ∷ []) × (map lineWords
-    (account (rules bookI) (8 ∷ 5 ∷ [])) ≡ (0 ∷ 1 ∷ 1 ∷ 1 ∷ 1 ∷ []) ∷ (1 ∷ 1 ∷ 2 ∷ 0 ∷ 1 ∷ []) ∷ [])
+    (account (rules bookI) (8 ∷ 5 ∷ [])) ≡ (0 ∷ 1 ∷ 1 ∷ 1 ∷ 1 ∷ 1 ∷ []) ∷ (1 ∷ 1 ∷ 2 ∷ 0 ∷ 1 ∷ 1 ∷ []) ∷ [])
 unfolding bookI leads flagged isStart isAccept accepts candidate longest rewriting account
 longer-wins = (refl, refl)

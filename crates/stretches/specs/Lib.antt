@@ -10,7 +10,8 @@ pub mod Sentences
 pub mod Lists
 pub mod Ready
 pub mod Position
--- Examples: the books and tapes worked by hand, and two tapes with words put in.
+-- Examples: the books and tapes worked by hand, a tape for the deciding rules, and two tapes with words put in.
 pub mod Books
 pub mod Table
+pub mod Rivals
 pub mod Insertions

@@ -56,6 +56,10 @@ pub data Taken (b : Rules) (t : List ℕ) : ℕ → ℕ → ℕ → Type 0 where
 abbrev pub Takes : Rules → List ℕ → ℕ → ℕ → Type 0
 Takes b t i j = List·Memᴰ (record { start = i; end = j; taken = true }) (taken b t)
 
+-- and r is the rule by which it is taken
+abbrev pub TakesBy : Rules → List ℕ → ℕ → ℕ → ℕ → Type 0
+TakesBy b t i j r = Takes b t i j × (r ≡ ruleOf b t i j)
+
 -- 2. the account
 
 -- "Order: start, end, rule"
@@ -92,15 +96,28 @@ candidateCount b t =
     (suc (length t))
 
 -- "Verdicts: 0 taken; 1 shorter than the taken one at the same start; 2 same stretch, lower rule taken; 3 start strictly inside a taken stretch.
--- The deciding start is that of the taken stretch, its own for 0": exactly one of the four, and what each says
+-- The deciding start is that of the taken stretch, its own for 0": exactly one of the four, and what each says. Document 02, No. 1: "A sixth word
+-- gives the rule of the deciding stretch (its own for verdict 0)": for 1 the rule taken at the same start, for 2 the lower rule, for 3 the rule of
+-- the taken stretch around the start
 pub record Judged (b : Rules) (t : List ℕ) (l : Line) : Type 0 where
-  pub taken-one : (l .verdict ≡ 0) ↔ (Takes b t (l .start) (l .end) × (l .rule ≡ ruleOf b t (l .start) (l .end)))
+  pub taken-one : (l .verdict ≡ 0) ↔ TakesBy b t (l .start) (l .end) (l .rule)
   pub shorter : (l .verdict ≡ 1) ↔ ((e : ℕ) × Takes b t (l .start) e × (l .end < e))
   pub lower-rule : (l .verdict ≡ 2) ↔ (Takes b t (l .start) (l .end) × (ruleOf b t (l .start) (l .end) < l .rule))
   pub inside : (l .verdict ≡ 3) ↔ ((e : ℕ) × Takes b t (l .deciding) e × (l .deciding < l .start) × (l .start < e))
   pub one-of : l .verdict < 4
-  pub deciding-taken : (e : ℕ) × Takes b t (l .deciding) e
+  pub deciding-taken : (e : ℕ) × TakesBy b t (l .deciding) e (l .decidingRule)
   pub deciding-own : l .verdict < 3 → l .deciding ≡ l .start
+  pub rule-own : l .verdict ≡ 0 → l .decidingRule ≡ l .rule
+  pub rule-longer : l .verdict ≡ 1 → (e : ℕ) × TakesBy b t (l .start) e (l .decidingRule) × (l .end < e)
+  pub rule-lower : l .verdict ≡ 2 → TakesBy b t (l .start) (l .end) (l .decidingRule) × (l .decidingRule < l .rule)
+  pub rule-around : l .verdict ≡ 3 → (e : ℕ) × TakesBy b t (l .deciding) e (l .decidingRule) × (l .deciding < l .start) × (l .start < e)
+
+-- line k of the account is that of the stretch that decides l: marked 0, with l's deciding start and rule
+pub record Decides (ls : List Line) (l : Line) (k : ℕ) : Type 0 where
+  pub within : k < length ls
+  pub marked : lineNumber ls k .verdict ≡ 0
+  pub start : lineNumber ls k .start ≡ l .deciding
+  pub rule : lineNumber ls k .rule ≡ l .decidingRule
 
 -- the lines with verdict 0
 abbrev pub takenLines : List Line → List Line

@@ -51,8 +51,8 @@ unfolding rows tape8 house bookP bookQ bookS recordSize symbolFits symbolsFit ru
     withRecord readFrom readBook bookOf leads flagged isStart isAccept accepts candidate longest rewriting
 table = refl
 
--- case 1, the C lines that document 01 prints: "C 0 1 3 0 1", "C 2 1 3 2 1"
-pub account1 : map lineWords (account (rulesIn house) (1 ∷ 2 ∷ 4 ∷ 0 ∷ 0 ∷ [])) ≡ (0 ∷ 1 ∷ 3 ∷ 0 ∷ 1 ∷ []) ∷ (2 ∷ 1 ∷ 3 ∷ 2 ∷ 1 ∷ []) ∷ []
+-- case 1, the C lines that document 01 prints, with the sixth word: "C 0 1 3 0 1 0", "C 2 1 3 2 1 0"
+pub account1 : map lineWords (account (rulesIn house) (1 ∷ 2 ∷ 4 ∷ 0 ∷ 0 ∷ [])) ≡ (0 ∷ 1 ∷ 3 ∷ 0 ∷ 1 ∷ 0 ∷ []) ∷ (2 ∷ 1 ∷ 3 ∷ 2 ∷ 1 ∷ 0 ∷ []) ∷ []
 unfolding house recordSize symbolFits symbolsFit ruleReply stateReply given arcReply endReply kindReply recordReply withRecord readFrom readBook
     bookOf leads flagged isStart isAccept accepts candidate longest account
 account1 = refl
@@ -63,17 +63,18 @@ unfolding tape8 bookP recordSize symbolFits symbolsFit ruleReply stateReply give
     readBook bookOf leads flagged isStart isAccept accepts candidate longest taken
 taken8 = refl
 
--- "Its account for case 8 has nine lines; 1 to 6 and 8 to 10 are taken, 1 to 3 and 1 to 4 are shorter, the other five have deciding start 1"
+-- "Its account for case 8 has nine lines; 1 to 6 and 8 to 10 are taken, 1 to 3 and 1 to 4 are shorter, the other five have deciding start 1"; rule 0
+-- decides each, also that of rule 1 from 5 to 7
 pub account8 : map lineWords (account (rulesIn bookP) tape8) ≡
-    (0 ∷ 1 ∷ 3 ∷ 1 ∷ 1 ∷ []) ∷
-    (0 ∷ 1 ∷ 4 ∷ 1 ∷ 1 ∷ []) ∷
-    (0 ∷ 1 ∷ 6 ∷ 0 ∷ 1 ∷ []) ∷
-    (0 ∷ 2 ∷ 4 ∷ 3 ∷ 1 ∷ []) ∷
-    (0 ∷ 2 ∷ 6 ∷ 3 ∷ 1 ∷ []) ∷
-    (0 ∷ 3 ∷ 6 ∷ 3 ∷ 1 ∷ []) ∷
-    (0 ∷ 4 ∷ 6 ∷ 3 ∷ 1 ∷ []) ∷
-    (1 ∷ 5 ∷ 7 ∷ 3 ∷ 1 ∷ []) ∷
-    (0 ∷ 8 ∷ 10 ∷ 0 ∷ 8 ∷ []) ∷
+    (0 ∷ 1 ∷ 3 ∷ 1 ∷ 1 ∷ 0 ∷ []) ∷
+    (0 ∷ 1 ∷ 4 ∷ 1 ∷ 1 ∷ 0 ∷ []) ∷
+    (0 ∷ 1 ∷ 6 ∷ 0 ∷ 1 ∷ 0 ∷ []) ∷
+    (0 ∷ 2 ∷ 4 ∷ 3 ∷ 1 ∷ 0 ∷ []) ∷
+    (0 ∷ 2 ∷ 6 ∷ 3 ∷ 1 ∷ 0 ∷ []) ∷
+    (0 ∷ 3 ∷ 6 ∷ 3 ∷ 1 ∷ 0 ∷ []) ∷
+    (0 ∷ 4 ∷ 6 ∷ 3 ∷ 1 ∷ 0 ∷ []) ∷
+    (1 ∷ 5 ∷ 7 ∷ 3 ∷ 1 ∷ 0 ∷ []) ∷
+    (0 ∷ 8 ∷ 10 ∷ 0 ∷ 8 ∷ 0 ∷ []) ∷
     []
 unfolding tape8 bookP recordSize symbolFits symbolsFit ruleReply stateReply given arcReply endReply kindReply recordReply withRecord readFrom
     readBook bookOf leads flagged isStart isAccept accepts candidate longest account
