@@ -11,9 +11,10 @@ use native.Mathlib.Decide.{decLt}
 use borrow.Author.Tests.{lt-ltb, le-ltb, le-leb, lt-leb, leb-true}
 use lib.Dec.{leb}
 use lib.ListN.{length, getD, drop}
+use Rattle.book.specs.Format.{mostRules}
 use Rattle.book.specs.Language.{Rules, rulesIn}
 use Rattle.sets.specs.Tables.{leftEntry}
-use Rattle.stretches.specs.Candidates.{Stretch, longest, ruleOf}
+use Rattle.stretches.specs.Candidates.{Stretch, candidate, longest, ruleOf}
 use Rattle.stretches.specs.Account.{Line, linesAt, account, lineLength, wordsIn}
 use Rattle.stretches.specs.Buffers.{onto}
 use Rattle.lines.specs.Listing.{AfterLines, linesLeave, wordsNeeded, linesDef}
@@ -21,7 +22,9 @@ use Rattle.stretches.specs.Ready.{Ready}
 use Rattle.stretches.specs.Position.{TakenHere}
 use Rattle.lines.specs.Lines.{DecidesBy, decider, decidingAt, startLines, LinesFit, LinesPut}
 use Rattle.lines.specs.declared.writing.Deciding.{Deciding}
+use Rattle.book.proofs.Claims.{sound}
 use Rattle.stretches.proofs.Lists.{by-test}
+use Rattle.stretches.proofs.First.{first-below}
 use Rattle.stretches.proofs.Onto.{onto-length}
 use Rattle.stretches.proofs.Walks.{over, over-suc, over-zero, cover-in, cover-new, stands}
 use Rattle.stretches.proofs.Counts.{words-length}
@@ -92,7 +95,14 @@ module _ (book t rows sets scratch l₀ : List ℕ) (ready : Ready book t rows s
       decides = e ∙ was .next
 
       pub deciding-here : DecidesBy i d
-      deciding-here = record { start = omega (arith, ap (λ (x : Deciding). x .start) decides, stands R t i .low) }
+      deciding-here =
+          let s = over R t i in
+          let few = sound book (ready .accepted) .rules in
+          let low = first-below (candidate R t (s .start) (s .end)) 0 (length (R .words)) 0 mostRules (omega (arith, few)) (omega arith) in
+          record {
+            start = omega (arith, ap (λ (x : Deciding). x .start) decides, stands R t i .low);
+            rule = omega (arith, ap (λ (x : Deciding). x .rule) decides, low);
+          }
 
       module _ (inside : i < length t) where
         step : lineFrom i ≡ startLines R t i d ++ lineFrom (suc i)

@@ -15,7 +15,7 @@ use Rattle.sets.specs.Sets.{leftAt}
 use Rattle.sets.specs.Focus.{focusFirst, focusNext}
 use Rattle.sets.specs.Tables.{rightSet}
 use Rattle.stretches.specs.Candidates.{candidate, keep}
-use Rattle.stretches.specs.Account.{Line, each, lineWords, lineLength, lineRule, lineStart, lineEnd, lineVerdict, lineDeciding, wordsIn}
+use Rattle.stretches.specs.Account.{Line, each, lineWords, lineLength, lineRule, lineStart, lineEnd, lineVerdict, lineDeciding, lineDecidingRule, wordsIn}
 use Rattle.stretches.specs.Ready.{RightSets}
 use Rattle.stretches.specs.Position.{hits}
 use Rattle.lines.specs.Lines.{lineBy, DecidesBy, hitLines, endLines, startLines, LinesFit, LinesPut}
@@ -43,12 +43,14 @@ pub put-words : (x : Line) (l : List ℕ) (at : ℕ) → at + lineLength ≤ len
     (set
     (set
     (set
+    (set
     (set l
     (at + lineRule) (x .rule))
     (at + lineStart) (x .start))
     (at + lineEnd) (x .end))
     (at + lineVerdict) (x .verdict))
     (at + lineDeciding) (x .deciding))
+    (at + lineDecidingRule) (x .decidingRule))
 unfolding wordsIn
 put-words x l at h =
     let p0 : at + lineRule ≡ at = omega arith in
@@ -56,10 +58,11 @@ put-words x l at h =
     let p2 : at + lineEnd ≡ suc (suc at) = omega arith in
     let p3 : at + lineVerdict ≡ suc (suc (suc at)) = omega arith in
     let p4 : at + lineDeciding ≡ suc (suc (suc (suc at))) = omega arith in
-    record { next = refl; lines = rw (p0, p1, p2, p3, p4) (sets-eq (lineWords x) l at h) }
+    let p5 : at + lineDecidingRule ≡ suc (suc (suc (suc (suc at)))) = omega arith in
+    record { next = refl; lines = rw (p0, p1, p2, p3, p4, p5) (sets-eq (lineWords x) l at h) }
 
 pub decides-up : (i n : ℕ) (d : Deciding) → i ≤ n → DecidesBy i d → DecidesBy n d
-decides-up i n d h was = record { start = omega (arith, was .start) }
+decides-up i n d h was = record { start = omega (arith, was .start); rule = was .rule }
 
 -- the line of a rule that passes, and none of one that does not
 pub kept-room : (hit c : Bool) (x : Line) (at : ℕ) (l : List ℕ) → hit ≡ c → hit ≡ true → LinesFit (keep c x) at l → at + lineLength ≤ length l

@@ -1,10 +1,11 @@
 -- The account as it is counted and written: one rule, one end and one start after the other.
-use Prim.Native.Nat.{ℕ, suc, _+_, _-_, _≤_}
+use Prim.Native.Nat.{ℕ, suc, _+_, _-_, _≤_, _<_}
 use mathlib.Core.Path.{_≡_}
 use mathlib.Core.List.{List}
 use mathlib.Core.Bool.{cond}
 use lib.Dec.{ltb}
 use lib.ListN.{length}
+use Rattle.book.specs.Format.{mostRules}
 use Rattle.book.specs.Reading.{Book}
 use Rattle.book.specs.Language.{Rules}
 use Rattle.stretches.specs.Candidates.{Stretch, candidate, longest, ruleOf, keep}
@@ -41,6 +42,7 @@ lineBy i j r d = judge i j r (verdictBy i j r (d .start) (d .end) (d .rule)) (d 
 -- what decides at a position up to n: its numbers stand in the words of a line where n is the longest tape's length
 pub record DecidesBy (n : ℕ) (d : Deciding) : Type 0 where
   pub start : d .start ≤ n
+  pub rule : d .rule < mostRules
 
 -- the lines of one end
 unfoldable pub hitLines : Book → ℕ → ℕ → ℕ → ℕ → Deciding → List Line

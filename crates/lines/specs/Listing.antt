@@ -17,11 +17,12 @@ pub record AfterLines : Type 0 where
 abbrev pub linesLeave : Accounted → List ℕ → AfterLines
 linesLeave answer lines = record { answer = answer; lines = lines }
 
--- five words a candidate
+-- six words a candidate
 abbrev pub wordsNeeded : Rules → List ℕ → ℕ
 wordsNeeded b tape = lineLength * length (account b tape)
 
--- the account of one tape after a build: "15: the account shorter than five words a candidate; words needed"
+-- the account of one tape after a build: "15: the account shorter than" its words, "words needed"; document 02, No. 1: "15 now counts six words a
+-- candidate"
 unfoldable pub linesDef : Rules → List ℕ → List ℕ → AfterLines
 linesDef b tape lines =
     cond (leb (wordsNeeded b tape) (length lines))

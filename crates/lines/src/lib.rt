@@ -22,7 +22,7 @@ ghost use Rattle.lines.specs.Lines.{hitCount, startCount};
 mod writing; // writing.rt: the lines of the account, one after the other
 
 // The words of a line of an account, and where each stands in it.
-pub const LINE_WORDS: usize = 5;
+pub const LINE_WORDS: usize = 6;
 
 pub const LINE_RULE: usize = 0;
 
@@ -33,6 +33,8 @@ pub const LINE_END: usize = 2;
 pub const LINE_VERDICT: usize = 3;
 
 pub const LINE_DECIDING: usize = 4;
+
+pub const LINE_DECIDING_RULE: usize = 5;
 
 // ACCOUNT's answer.
 pub struct Accounted {

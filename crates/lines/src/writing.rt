@@ -1,6 +1,7 @@
 // The lines of the account: for each start the ends in order, and for each end the rules. The walk from a start ends right after its last
 // candidate.
 use crate::LINE_DECIDING;
+use crate::LINE_DECIDING_RULE;
 use crate::LINE_END;
 use crate::LINE_RULE;
 use crate::LINE_START;
@@ -32,11 +33,11 @@ ghost use Rattle.lines.specs.Lines.{decidingAt, lineBy, DecidesBy, hitLi
 
 // The stretch that decides at a position: the taken one that stands over it, or the empty one at it.
 pub struct Deciding {
-    // Where it starts, at most the position: the last word of a line.
+    // Where it starts, at most the position: the fifth word of a line.
     pub start: usize,
     // Where it ends: the next position that it does not cover decides anew, and a candidate that ends before it is shorter.
     pub end: usize,
-    // Its rule's number, 0 where nothing is taken: of candidates of the same stretch that of the lowest rule is taken.
+    // Its rule's number, 0 where nothing is taken: of candidates of the same stretch that of the lowest rule is taken. The sixth word of a line.
     pub rule: usize,
 }
 
@@ -71,11 +72,13 @@ fn put_line(
     ensures { λ p. ⌜ LinesPut (judge i j r verdict (d .start) (d .rule) ∷ []) at (now (lines .entry)) p (now (lines .exit)) ⌝ }
 {
     let deciding = d.start;
+    let by = d.rule;
     lines[at + LINE_RULE] = r as u16;
     lines[at + LINE_START] = i as u16;
     lines[at + LINE_END] = j as u16;
     lines[at + LINE_VERDICT] = verdict;
     lines[at + LINE_DECIDING] = deciding as u16;
+    lines[at + LINE_DECIDING_RULE] = by as u16;
     at + LINE_WORDS
 }
 

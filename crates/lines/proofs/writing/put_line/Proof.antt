@@ -68,6 +68,19 @@ slice-write-lines-5 : tie.Need-slice-write-lines-5
 slice-write-lines-5 c =
     simp length-set (omega arith)
 
+cast-lines-5 : tie.Need-cast-lines-5
+cast-lines-5 c = search needs
+
+add-lines-6 : tie.Need-add-lines-6
+add-lines-6 c = search needs
+
+mul-lines-6 : tie.Need-mul-lines-6
+mul-lines-6 c = search needs
+
+slice-write-lines-6 : tie.Need-slice-write-lines-6
+slice-write-lines-6 c =
+    simp length-set (omega arith)
+
 add-result : tie.Need-add-result
 add-result c = search needs
 
@@ -102,6 +115,10 @@ put-line-spec =
     add-lines-5
     mul-lines-5
     slice-write-lines-5
+    cast-lines-5
+    add-lines-6
+    mul-lines-6
+    slice-write-lines-6
     add-result
     same-length
     returns)
