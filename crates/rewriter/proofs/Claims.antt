@@ -15,7 +15,8 @@ use Rattle.stretches.specs.Buffers.{onto}
 use Rattle.rewriter.specs.Show.{between, boundsOf, showDef}
 use Rattle.rewriter.specs.Replies.{accountDef}
 use Rattle.stretches.specs.Paper.{Context, start, end, RC, BookRC, C, Earliest, Over, Overlap, CLM, CLML, RewriteLML}
-use Rattle.stretches.specs.Sentences.{Candidate, Taken, Takes, Sorted, SameCandidate, lineNumber, candidateCount, Judged, takenLines, lineOf}
+use Rattle.stretches.specs.Sentences.{Candidate, Taken, Takes, TakesBy, Sorted, SameCandidate, lineNumber, candidateCount}
+use Rattle.stretches.specs.Sentences.{Judged, Decides, takenLines, lineOf}
 use Rattle.stretches.specs.Sentences.{Chain, replace, removed, writes, keptSymbols, writtenWords, Shuffled}
 use Rattle.stretches.specs.Sentences.{symbolsFrom, originsFrom, Traced}
 use Rattle.stretches.specs.Books.{bookP}
@@ -136,12 +137,24 @@ module _ (b : Rules) (t : List ℕ) where
   pub word-count : length (wordsIn (account b t)) ≡ lineLength * length (account b t)
   word-count = Counts.words-length (account b t)
 
-  -- exactly one verdict, and what each says; the deciding start is a taken start
+  -- exactly one verdict, and what each says; at the deciding start a stretch is taken, and the deciding rule is the one it is taken by
   pub lines-judged : (l : Line) → List·Memᴰ l (account b t) → Judged b t l
   lines-judged = Accounts.account-judged b t
 
-  pub deciding-is-taken : (l : Line) → List·Memᴰ l (account b t) → (e : ℕ) × Takes b t (l .deciding) e
+  pub deciding-is-taken : (l : Line) → List·Memᴰ l (account b t) → (e : ℕ) × TakesBy b t (l .deciding) e (l .decidingRule)
   deciding-is-taken l m = Accounts.account-judged b t l m .deciding-taken
+
+  -- so who reads a line finds the one that beat it: marked 0, with its deciding start and rule. There is such a line, and one alone; the start is
+  -- enough to find it.
+  pub deciding-line : (l : Line) → List·Memᴰ l (account b t) → (k : ℕ) × Decides (account b t) l k
+  deciding-line = Accounts.account-decided b t
+
+  pub deciding-line-once : (l : Line) (j k : ℕ) → Decides (account b t) l j → Decides (account b t) l k → j ≡ k
+  deciding-line-once = Accounts.decided-once b t
+
+  pub zero-start-once : (j k : ℕ) → j < length (account b t) → k < length (account b t) → lineNumber (account b t) j .verdict ≡ 0
+      → lineNumber (account b t) k .verdict ≡ 0 → lineNumber (account b t) j .start ≡ lineNumber (account b t) k .start → j ≡ k
+  zero-start-once = Accounts.marked-once b t
 
   -- the lines with verdict 0 are the stretches taken, in order; as many as REWRITE reports; they make the output and its length
   pub zero-lines : takenLines (account b t) ≡ map (lineOf b t) (taken b t)
