@@ -5,7 +5,7 @@ ghost use Prim.Native.Nat.{_+_, _≤_};
 ghost use lib.ListN.{length, take};
 ghost use Rattle.sets.specs.Workspace.{rowBytes, setWords};
 ghost use Rattle.stretches.specs.Buffers.{longestTape};
-ghost use Rattle.cases.specs.Room.{Room};
+ghost use Rattle.cases.specs.Room.{Room, outRoom, linesRoom};
 
 pub mod books; // books.rt: the books of the cases
 pub mod expect; // expect.rt: what must stand in each buffer
@@ -70,7 +70,7 @@ pub fn lend(
     lines: usize,
 ) -> Lent
     requires { ⌜ (rows ≤ rowBytes + 8) × (sets ≤ setWords + 8) × (scratch ≤ longestTape + 4) ⌝ }
-    requires { ⌜ (out ≤ 6150) × (origins ≤ 6150) × (lines ≤ 10250) ⌝ }
+    requires { ⌜ (out ≤ outRoom) × (origins ≤ outRoom) × (lines ≤ linesRoom) ⌝ }
     ensures { λ r. ⌜ Room r ⌝ }
     ensures { λ r. ⌜ r ≡ record { rows = rows; sets = sets; scratch = scratch; out = out; origins = origins; lines = lines } ⌝ }
 {
@@ -87,7 +87,7 @@ pub fn lend(
 // More than any case needs.
 pub fn ample() -> Lent
     ensures { λ r. ⌜ Room r ⌝ }
-    ensures { λ r. ⌜ r ≡ record { rows = rowBytes + 8; sets = setWords + 8; scratch = longestTape + 4; out = 6150; origins = 6150; lines = 10250 } ⌝ }
+    ensures { λ r. ⌜ r ≡ record { rows = rowBytes + 8; sets = setWords + 8; scratch = longestTape + 4; out = outRoom; origins = outRoom; lines = linesRoom } ⌝ }
 {
     lend(ROOM_ROWS, ROOM_SETS, SCRATCH, OUT, OUT, LINES)
 }

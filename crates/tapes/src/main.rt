@@ -52,13 +52,11 @@ fn long_cases() {
     );
 }
 
-// The part that SHOW hands back of a tape of four symbols, and where it starts. Of the account's lines only the first is whole, in order and
-// within that tape.
-fn show_case(line: usize, part: &[u8], start: usize, note: &[u8]) {
+// The part that SHOW hands back of a tape of four symbols, and where it starts.
+fn show_case(lines: &[u16], line: usize, part: &[u8], start: usize, note: &[u8]) {
     let tape = [5u8, 6, 7, 8];
-    let lines = [0u16, 1, 3, 0, 1, 0, 2, 2, 0, 2, 0, 3, 5, 0, 3, 0, 0, 1, 0];
-    let b = rewriter::bounds_of(tape.len(), &lines, line);
-    let shown = rewriter::show(&tape, &lines, line);
+    let b = rewriter::bounds_of(tape.len(), lines, line);
+    let shown = rewriter::show(&tape, lines, line);
     let ok = check::same(shown, part) & (b.start == start);
     let want = Want {
         tables: UNTOUCHED,
@@ -72,11 +70,14 @@ fn show_case(line: usize, part: &[u8], start: usize, note: &[u8]) {
 }
 
 fn show_cases() {
-    show_case(0, &[6, 7], 1, b"a stretch");
-    show_case(1, &[], 0, b"start not below end");
-    show_case(2, &[], 0, b"end past the tape");
-    show_case(3, &[], 0, b"a cut line");
-    show_case(usize::MAX, &[], 0, b"no such line");
+    let lines = [0, 1, 3, 0, 1, 0, 1, 2, 4, 0, 2, 1];
+    show_case(&lines, 0, &[6, 7], 1, b"a stretch");
+    show_case(&lines, 1, &[7, 8], 2, b"the second line");
+    show_case(&[0, 2, 2, 0, 2, 0], 0, &[], 0, b"start not below end");
+    show_case(&[0, 3, 5, 0, 3, 0], 0, &[], 0, b"end past the tape");
+    show_case(&[0, 0, 1, 0, 0], 0, &[], 0, b"a cut line");
+    show_case(&lines, 2, &[], 0, b"one past the last line");
+    show_case(&lines, usize::MAX, &[], 0, b"no such line");
 }
 
 fn main() {

@@ -16,6 +16,7 @@ use cases::front;
 use cases::lend;
 use cases::refused;
 use cases::rewrite_case;
+use rewriter::LINE_WORDS;
 use rewriter::LONGEST_TAPE;
 use sets::ROW_BYTES;
 use sets::SET_WORDS;
@@ -109,28 +110,28 @@ fn pair_account_case(lent: Lent, want: Want, note: &[u8])
 fn pair_account() {
     pair_account_case(ample(), accepted(PAIR, 2, 0, 0), b"ample room");
     pair_account_case(
-        lend(ROW_BYTES, SET_WORDS, 5, 0, 0, 10),
+        lend(ROW_BYTES, SET_WORDS, 5, 0, 0, 2 * LINE_WORDS),
         accepted(PAIR, 2, 0, 0),
         b"just enough",
     );
     pair_account_case(
-        lend(ROW_BYTES - 1, SET_WORDS, 4, 0, 0, 9),
+        lend(ROW_BYTES - 1, SET_WORDS, 4, 0, 0, 2 * LINE_WORDS - 1),
         refused(PAIR, 11, 0),
         b"all too short",
     );
     pair_account_case(
-        lend(ROW_BYTES, SET_WORDS - 1, 5, 0, 0, 10),
+        lend(ROW_BYTES, SET_WORDS - 1, 5, 0, 0, 2 * LINE_WORDS),
         refused(PAIR, 11, 0),
         b"sets too short",
     );
     pair_account_case(
-        lend(ROW_BYTES, SET_WORDS, 4, 0, 0, 9),
+        lend(ROW_BYTES, SET_WORDS, 4, 0, 0, 2 * LINE_WORDS - 1),
         refused(PAIR, 12, 0),
         b"scratch too short",
     );
     pair_account_case(
-        lend(ROW_BYTES, SET_WORDS, 5, 0, 0, 9),
-        refused(PAIR, 15, 10),
+        lend(ROW_BYTES, SET_WORDS, 5, 0, 0, 2 * LINE_WORDS - 1),
+        refused(PAIR, 15, 2 * LINE_WORDS),
         b"account too short",
     );
 }
