@@ -1,11 +1,12 @@
-//! The account: document 01, "The account and SHOW".
+//! The account: document 01, "The account and SHOW", and document 02, No. 1.
 
 use crate::candidates::Stretch;
 use crate::reading::{Reading, Wrong};
 use crate::stretches::Stretches;
 
-/// "Five 16-bit words a candidate: rule, start, end, verdict, deciding start."
-pub const WORDS_A_LINE: usize = 5;
+/// "Five 16-bit words a candidate: rule, start, end, verdict, deciding start." Document 02, No. 1: "A sixth word gives
+/// the rule of the deciding stretch".
+pub const WORDS_A_LINE: usize = 6;
 pub type Line = [u16; WORDS_A_LINE];
 
 const TAKEN: u16 = 0;
@@ -33,22 +34,47 @@ fn order(stretch: &Stretch, reading: Reading) -> [usize; 3] {
     reading.value(order, Wrong::LongestLineFirst, [start, usize::MAX - end, rule])
 }
 
-fn line(stretch: Stretch, taken: &[Stretch], reading: Reading) -> Line {
-    let (verdict, deciding) = verdict(stretch, taken, reading);
-    [stretch.rule as u16, stretch.start as u16, stretch.end as u16, verdict, deciding]
+/// A candidate, its verdict, and the taken stretch that decides it.
+#[derive(Clone, Copy)]
+struct Decided {
+    candidate: Stretch,
+    verdict: u16,
+    deciding: Stretch,
+}
+
+fn line(candidate: Stretch, taken: &[Stretch], reading: Reading) -> Line {
+    let decided = decided(candidate, taken, reading);
+    let Stretch { rule, start, end } = candidate;
+    let (deciding_start, deciding_rule) = (deciding_start(decided, reading), deciding_rule(decided));
+    [rule, start, end, decided.verdict as usize, deciding_start, deciding_rule].map(|word| word as u16)
+}
+
+/// The deciding stretch is the last one taken that does not start after the candidate.
+fn decided(candidate: Stretch, taken: &[Stretch], reading: Reading) -> Decided {
+    let begun = taken.partition_point(|taken| taken.start <= candidate.start);
+    let Some(deciding) = begun.checked_sub(1).map(|last| taken[last]) else {
+        // Only a wrong reading leaves a candidate undecided.
+        return Decided { candidate, verdict: INSIDE, deciding: candidate };
+    };
+    let verdict = match deciding.start < candidate.start {
+        true => INSIDE,
+        false => verdict_at_start(candidate, deciding, reading),
+    };
+    Decided { candidate, verdict, deciding }
 }
 
 /// "The deciding start is that of the taken stretch, its own for 0."
-fn verdict(stretch: Stretch, taken: &[Stretch], reading: Reading) -> (u16, u16) {
-    let begun = taken.partition_point(|taken| taken.start <= stretch.start);
-    let Some(deciding) = begun.checked_sub(1).map(|last| taken[last]) else {
-        // Only a wrong reading leaves a candidate undecided.
-        return (INSIDE, stretch.start as u16);
-    };
-    if deciding.start < stretch.start {
-        return (INSIDE, reading.value(deciding.start, Wrong::VerdictEndInside, stretch.start) as u16);
+fn deciding_start(decided: Decided, reading: Reading) -> usize {
+    let Decided { candidate, verdict, deciding } = decided;
+    match verdict {
+        INSIDE => reading.value(deciding.start, Wrong::VerdictEndInside, candidate.start),
+        _ => deciding.start,
     }
-    (verdict_at_start(stretch, deciding, reading), deciding.start as u16)
+}
+
+/// Document 02, No. 1: "A sixth word gives the rule of the deciding stretch (its own for verdict 0)."
+fn deciding_rule(decided: Decided) -> usize {
+    decided.deciding.rule
 }
 
 /// "0 taken; 1 shorter than the taken one at the same start; 2 same stretch, lower rule taken"

@@ -116,11 +116,13 @@ fn account(call: &Call, lent: &mut Lent, agreement: &Agreement) -> Result<Counts
     fill(call, &sides, lent);
     let stretches = agreement.stretches(&book, &call.tape);
     let length = account::length(&stretches, reading);
-    if !room(lent.lines.len(), WORDS_A_LINE * length, reading) {
+    // Document 02, No. 1: "15 now counts six words a candidate."
+    let needed = WORDS_A_LINE * length;
+    if !room(lent.lines.len(), needed, reading) {
         if reading.is(Wrong::RoomWritesFront) && length <= LONGEST_TAPE {
             write_front(&mut lent.lines, &account::lines(&stretches, reading).concat(), reading);
         }
-        let needed = reading.value(WORDS_A_LINE * length, Wrong::RoomInLines, length);
+        let needed = reading.value(needed, Wrong::RoomInLines, length);
         return Err(no_room(lent, untouched, needed, call.lengths.lines, reading));
     }
     let lines = account::lines(&stretches, reading);

@@ -9,7 +9,7 @@ use crate::reading::{Reading, Wrong};
 use crate::workspace;
 
 /// "It gives the account 6,000 words."
-const ACCOUNT_WORDS: usize = 6000;
+pub const ACCOUNT_WORDS: usize = 6000;
 /// "another character counts as symbol 16"
 const OTHER: u8 = 16;
 
@@ -64,7 +64,7 @@ fn symbol(byte: u8, reading: Reading) -> u8 {
 /// The REWRITE and the ACCOUNT of one tape.
 fn calls(book: &[u8], tape: &[u8], reading: Reading) -> (Answer, Answer) {
     let account = reading.value(ACCOUNT_WORDS, Wrong::AccountOf5999, ACCOUNT_WORDS - 1);
-    let account = reading.value(account, Wrong::AccountOf6005, ACCOUNT_WORDS + WORDS_A_LINE);
+    let account = reading.value(account, Wrong::AccountOf6006, ACCOUNT_WORDS + WORDS_A_LINE);
     let mut call = Call::new(Operation::Rewrite);
     call.book = book.to_vec();
     call.tape = tape.to_vec();
@@ -87,7 +87,7 @@ fn tape_printed(output: &Answer, account: &Answer, reading: Reading) -> String {
     if output.reply != 0 {
         return refusal_printed(output);
     }
-    let mut printed = output_printed(output, reading);
+    let printed = output_printed(output, reading);
     if account.reply != 0 {
         if reading.is(Wrong::ShortAccountAlone) {
             return refusal_printed(account);
@@ -95,10 +95,12 @@ fn tape_printed(output: &Answer, account: &Answer, reading: Reading) -> String {
         return printed + &refusal_printed(account);
     }
     let words = WORDS_A_LINE * account.counts[0] as usize;
-    for line in account.lent.lines[..words].chunks(WORDS_A_LINE) {
-        printed += &format!("C {}\n", spaced(line));
-    }
-    printed
+    printed + &account.lent.lines[..words].chunks(WORDS_A_LINE).map(line_printed).collect::<String>()
+}
+
+/// "a C line per candidate"; document 02, No. 1: "SHOW and the printed C line follow."
+fn line_printed(line: &[u16]) -> String {
+    format!("C {}\n", spaced(line))
 }
 
 fn refusal_printed(answer: &Answer) -> String {

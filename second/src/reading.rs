@@ -154,7 +154,7 @@ wrong_readings! {
     LastLineNeedsNewline, "last-line-needs-newline", "A last line without newline is not read.";
     EmptyOutputBlank, "empty-output-blank", "An empty output prints nothing in its place.";
     AccountOf5999, "account-of-5999", "The account has 5,999 words.";
-    AccountOf6005, "account-of-6005", "The account has 6,005 words.";
+    AccountOf6006, "account-of-6006", "The account has 6,006 words.";
     ShortAccountAlone, "short-account-alone", "A short account prints X alone.";
     RefusalEndsRun, "refusal-ends-run", "A refusal ends the run, not the tape.";
 }

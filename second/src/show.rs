@@ -1,4 +1,5 @@
-//! SHOW: document 01, "hands back that stretch of the tape itself".
+//! SHOW: document 01, "hands back that stretch of the tape itself"; document 02, No. 1: "SHOW and the printed C line
+//! follow."
 
 use std::ops::Range;
 

@@ -1,8 +1,9 @@
-//! The reference, and the fast stand-in, against document 01 read as literally as can be: every run followed on its
-//! own, from state to state. Slow, so small tapes alone.
+//! The reference, and the fast stand-in, against document 01, with No. 1 of document 02, read as literally as can be:
+//! every run followed on its own, from state to state. Slow, so small tapes alone.
 
+use second::account::{Line, WORDS_A_LINE};
 use second::answer::Answer;
-use second::book::{self, Book};
+use second::book::{self, Book, MOST_RULES};
 use second::call::{Call, Lengths, Operation};
 use second::candidates::Stretch;
 use second::chance::Chance;
@@ -17,6 +18,8 @@ use second::{draft, fast};
 
 const BOOKS: u64 = 1500;
 const LONGEST: usize = 7;
+/// Every stretch of the longest tape for each rule.
+const MOST_LINES: usize = MOST_RULES * LONGEST * (LONGEST + 1) / 2;
 
 /// Whether some run from this state over this word ends in a state that is wanted.
 fn leads(book: &Book, state: usize, word: &[u8], wanted: &dyn Fn(usize) -> bool) -> bool {
@@ -84,18 +87,28 @@ fn output(book: &Book, tape: &[u8], taken: &[(usize, usize, usize)]) -> Vec<(u8,
     output
 }
 
-fn line(candidate: (usize, usize, usize), taken: &[(usize, usize, usize)]) -> [u16; 5] {
+/// A verdict at a time: its condition, and the start and the rule of the stretch that it names.
+fn line(candidate: (usize, usize, usize), taken: &[(usize, usize, usize)]) -> Line {
     let (start, end, rule) = candidate;
     let same_start = taken.iter().find(|(at, _, _)| *at == start);
     let around = taken.iter().find(|(at, to, _)| *at < start && start < *to);
-    let (verdict, deciding) = match (same_start, around) {
-        (Some(taken), None) if *taken == candidate => (0, start),
-        (Some((_, longest, _)), None) if end < *longest => (1, start),
-        (Some((_, longest, lower)), None) if end == *longest && *lower < rule => (2, start),
-        (None, Some((deciding, _, _))) => (3, *deciding),
+    let (verdict, deciding_start, deciding_rule) = match (same_start, around) {
+        (Some(taken), None) if *taken == candidate => (0, start, rule),
+        (Some((_, longest, of_longest)), None) if end < *longest => (1, start, *of_longest),
+        (Some((_, longest, lower)), None) if end == *longest && *lower < rule => (2, start, *lower),
+        (None, Some((before, _, of_around))) => (3, *before, *of_around),
         _ => panic!("a candidate has exactly one verdict"),
     };
-    [rule as u16, start as u16, end as u16, verdict, deciding as u16]
+    [rule, start, end, verdict, deciding_start, deciding_rule].map(|word| word as u16)
+}
+
+/// The rule taken at a taken start, from the candidates alone: "which rule beat this one", and is beaten by none.
+fn rule_taken_at(start: usize, candidates: &[(usize, usize, usize)]) -> usize {
+    let here = || candidates.iter().filter(|(at, _, _)| *at == start);
+    let beaten = |(_, end, rule): &(usize, usize, usize)| {
+        here().any(|(_, other_end, other)| other_end > end || other_end == end && other < rule)
+    };
+    here().find(|one| !beaten(one)).expect("a candidate start").2
 }
 
 fn sum(states: impl Iterator<Item = usize>) -> u64 {
@@ -122,7 +135,8 @@ fn answered(operation: Operation, book: &[u8], tape: &[u8]) -> Answer {
     let mut call = Call::new(operation);
     call.book = book.to_vec();
     call.tape = tape.to_vec();
-    call.lengths = Lengths { rows: 8192, sets: 512, scratch: LONGEST + 1, out: 64, origins: 64, lines: 5 * 16 * 28 };
+    call.lengths =
+        Lengths { rows: 8192, sets: 512, scratch: LONGEST + 1, out: 64, origins: 64, lines: MOST_LINES * WORDS_A_LINE };
     answer(&call, Reading::TRUE)
 }
 
@@ -174,6 +188,24 @@ fn candidates_taken_output_and_account() {
         with_several += u64::from(candidates.len() > taken.len());
     }
     assert!(with_candidates > BOOKS / 3 && with_several > BOOKS / 6, "{with_candidates} {with_several}");
+}
+
+/// The literal lines name rules that beat the candidate, and by each verdict but 0 often another one than its own.
+#[test]
+fn deciding_rules() {
+    let mut by_another = [0; 4];
+    for number in 0..BOOKS {
+        let (bytes, tape) = drawn(number);
+        let candidates = candidates(&book::read(&bytes, Reading::TRUE).expect("a valid book"), &tape);
+        let taken = taken(&candidates);
+        for candidate in &candidates {
+            let [rule, _, _, verdict, deciding_start, deciding_rule] = line(*candidate, &taken).map(usize::from);
+            assert_eq!(deciding_rule, rule_taken_at(deciding_start, &candidates), "book {number}");
+            by_another[verdict] += u64::from(rule != deciding_rule);
+        }
+    }
+    let [own, others @ ..] = by_another;
+    assert!(own == 0 && others.iter().all(|lines| *lines > BOOKS / 10), "{by_another:?}");
 }
 
 #[test]

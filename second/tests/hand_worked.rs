@@ -1,7 +1,10 @@
-//! The hand-worked table of document 01, the account of case 8, and the program's example.
+//! The hand-worked table of document 01, the account of case 8, and the program's example; lines have the sixth word of
+//! document 02, No. 1.
 
+use second::account::{Line, WORDS_A_LINE};
 use second::answer::Answer;
 use second::call::{Call, Lengths, Operation};
+use second::draft::{self, Part, Rule};
 use second::operations::answer;
 use second::reading::Reading;
 use second::{hand, hex, house, program};
@@ -61,23 +64,46 @@ fn cases_1_to_11() {
     }
 }
 
+/// The account has these lines, and nothing is written past them.
+fn accounts_for(book: &[u8], tape: &str, lines: &[Line]) {
+    let answer = answered(Operation::Account, book, &hand::tape(tape));
+    assert_eq!((answer.reply, answer.counts), (0, [lines.len() as u64, 0, 0, 0]));
+    let (written, past) = answer.lent.lines.split_at(WORDS_A_LINE * lines.len());
+    assert_eq!(written, lines.concat());
+    assert!(past.iter().all(|word| *word == 0xeeee));
+}
+
 #[test]
 fn nine_lines_of_case_8() {
-    let answer = answered(Operation::Account, &hand::p(), &hand::tape("aaaaaabaaab"));
-    let lines: [[u16; 5]; 9] = [
-        [0, 1, 3, 1, 1],
-        [0, 1, 4, 1, 1],
-        [0, 1, 6, 0, 1],
-        [0, 2, 4, 3, 1],
-        [0, 2, 6, 3, 1],
-        [0, 3, 6, 3, 1],
-        [0, 4, 6, 3, 1],
-        [1, 5, 7, 3, 1],
-        [0, 8, 10, 0, 8],
+    let lines = [
+        [0, 1, 3, 1, 1, 0],
+        [0, 1, 4, 1, 1, 0],
+        [0, 1, 6, 0, 1, 0],
+        [0, 2, 4, 3, 1, 0],
+        [0, 2, 6, 3, 1, 0],
+        [0, 3, 6, 3, 1, 0],
+        [0, 4, 6, 3, 1, 0],
+        [1, 5, 7, 3, 1, 0],
+        [0, 8, 10, 0, 8, 0],
     ];
-    assert_eq!((answer.reply, answer.counts), (0, [9, 0, 0, 0]));
-    assert_eq!(answer.lent.lines[..45], lines.concat());
-    assert!(answer.lent.lines[45..].iter().all(|word| *word == 0xeeee));
+    accounts_for(&hand::p(), "aaaaaabaaab", &lines);
+}
+
+/// Rule 0 x, rule 1 y, rules 2 to 4 xyz: rule 2 decides by every verdict, and neither the lowest rule nor the last one
+/// taken does.
+#[test]
+fn every_verdict_has_its_deciding_rule() {
+    let foci = ["x", "y", "xyz", "xyz", "xyz"];
+    let rules = foci.map(|focus| Rule::new(Part::any(), Part::word(&hand::tape(focus)), Part::any(), &[]));
+    let lines = [
+        [0, 0, 1, 1, 0, 2],
+        [2, 0, 3, 0, 0, 2],
+        [3, 0, 3, 2, 0, 2],
+        [4, 0, 3, 2, 0, 2],
+        [1, 1, 2, 3, 0, 2],
+        [1, 3, 4, 0, 3, 1],
+    ];
+    accounts_for(&draft::book(&rules), "xyzy", &lines);
 }
 
 #[test]
@@ -90,7 +116,7 @@ fn house_book_has_its_148_bytes() {
 
 #[test]
 fn program_prints_the_example() {
-    let printed = "W 4 1 1a00\nO 0 1 3 4\nC 0 1 3 0 1\nC 2 1 3 2 1\n";
+    let printed = "W 4 1 1a00\nO 0 1 3 4\nC 0 1 3 0 1 0\nC 2 1 3 2 1 0\n";
     assert_eq!(program::run(b"12400", Reading::TRUE), printed);
     assert_eq!(program::run(b"12400\n", Reading::TRUE), printed);
 }
@@ -105,11 +131,11 @@ fn program_at_its_edges() {
     prints(b"0A\n5", "X 10 1\nW 1 0 5\nO 0\n");
     prints(&[b'0'; 4097], "X 9 0\n");
     prints(&[b'z'; 4097], "X 9 0\n");
-    // One candidate for each "245": 1,200 lines fit into 6,000 words, 1,201 do not.
-    let fits = program::run(&b"245".repeat(1200), Reading::TRUE);
-    assert_eq!(fits.lines().filter(|line| line.starts_with('C')).count(), 1200);
-    let short = program::run(&b"245".repeat(1201), Reading::TRUE);
-    assert!(short.starts_with("W 2402 1201 85") && short.ends_with("\nX 15 6005\n"));
+    // One candidate for each "245": 1,000 lines fit into 6,000 words, 1,001 do not.
+    let fits = program::run(&b"245".repeat(1000), Reading::TRUE);
+    assert_eq!(fits.lines().filter(|line| line.starts_with('C')).count(), 1000);
+    let short = program::run(&b"245".repeat(1001), Reading::TRUE);
+    assert!(short.starts_with("W 2002 1001 85") && short.ends_with("\nX 15 6006\n"));
     assert_eq!(short.lines().count(), 3);
 }
 
@@ -117,14 +143,17 @@ fn program_at_its_edges() {
 fn show_hands_back_stretches() {
     let mut call = Call::new(Operation::Show);
     call.tape = hand::tape("aaaaaabaaab");
-    call.account = vec![0, 8, 10, 0, 8, 0, 5, 5, 0, 0, 0, 10, 12, 0, 0, 1, 10, 11, 0];
+    let lines = [[0, 8, 10, 0, 8, 0], [1, 5, 7, 3, 1, 0], [0, 5, 5, 0, 5, 0], [0, 10, 12, 0, 10, 0]];
+    call.account = [lines.concat(), vec![1, 10, 11, 0, 10]].concat();
     let shown = |line: u32| {
         let answer = answer(&Call { line, ..call.clone() }, Reading::TRUE);
         (answer.place, answer.counts[0], answer.part)
     };
     assert_eq!(shown(0), (8, 2, hand::tape("aa")));
-    // Start not below end, end past the tape, a line cut short, no such line, numbers that could wrap around.
-    for line in [1, 2, 3, 4, 5, 858_993_459, 858_993_460, u32::MAX] {
+    assert_eq!(shown(1), (5, 2, hand::tape("ab")));
+    // Start not below end, end past the tape, a line without its sixth word, no such line, numbers that could wrap
+    // around: 2^31 and one more would be lines 0 and 1.
+    for line in [2, 3, 4, 5, 715_827_882, 715_827_883, 1 << 31, (1 << 31) + 1, u32::MAX] {
         assert_eq!(shown(line), (0, 0, Vec::new()), "line {line}");
     }
 }

@@ -1,5 +1,6 @@
 //! Sizes at every limit and one past it.
 
+use second::account::WORDS_A_LINE;
 use second::agreement::Agreement;
 use second::call::{Call, Lengths, Operation};
 use second::chance::Chance;
@@ -58,10 +59,10 @@ fn tapes_of_4096_and_4097_symbols() {
 fn most_candidates_are_counted() {
     let mut call = Call::new(Operation::Account);
     call.book = draft::book(&vec![full::every_stretch(&[]); 16]);
-    call.lengths = Lengths { rows: 8192, sets: 512, scratch: 4097, lines: 5, ..Lengths::default() };
+    call.lengths = Lengths { rows: 8192, sets: 512, scratch: 4097, lines: WORDS_A_LINE, ..Lengths::default() };
     call.tape = vec![0; 4096];
     let answer = answer(&call, Reading::TRUE);
-    assert_eq!((answer.reply, answer.place), (15, 5 * 16 * (4096 * 4097 / 2)));
+    assert_eq!((answer.reply, answer.place), (15, WORDS_A_LINE as u64 * 16 * (4096 * 4097 / 2)));
 }
 
 fn checked(records: &[Vec<u8>]) -> (u8, u64, [u64; 4]) {

@@ -164,12 +164,14 @@ fn reply_15_leaves_workspace_and_scratch_as_acceptance_does() {
         assert!(refused.lent.out.iter().all(|symbol| *symbol == 0x5a));
         assert!(refused.lent.origins.iter().all(|origin| *origin == 0x5a5a));
     }
-    let accepted = lent(&accounting, 0, 0, 10);
+    let accepted = lent(&accounting, 0, 0, 12);
     assert_eq!((accepted.reply, accepted.counts), (0, [2, 0, 0, 0]));
-    let refused = lent(&accounting, 0, 0, 9);
-    assert_eq!((refused.reply, refused.place, refused.counts), (15, 10, [0; 4]));
-    same_workspace_and_scratch(&refused, &accepted);
-    assert!(refused.lent.lines.iter().all(|word| *word == 0x5a5a));
+    for lines in [11, 10, 6, 0] {
+        let refused = lent(&accounting, 0, 0, lines);
+        assert_eq!((refused.reply, refused.place, refused.counts), (15, 12, [0; 4]));
+        same_workspace_and_scratch(&refused, &accepted);
+        assert!(refused.lent.lines.iter().all(|word| *word == 0x5a5a));
+    }
 }
 
 fn same_workspace_and_scratch(one: &Answer, other: &Answer) {

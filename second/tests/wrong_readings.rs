@@ -22,7 +22,7 @@ const OF_PROGRAM: [Wrong; 11] = [
     Wrong::LastLineNeedsNewline,
     Wrong::EmptyOutputBlank,
     Wrong::AccountOf5999,
-    Wrong::AccountOf6005,
+    Wrong::AccountOf6006,
     Wrong::ShortAccountAlone,
     Wrong::RefusalEndsRun,
 ];

@@ -3,6 +3,7 @@
 use super::alphabet::Alphabet;
 use super::full;
 use super::tapes;
+use crate::account::WORDS_A_LINE;
 use crate::book::{HIGHEST_SYMBOL, MOST_ARCS, MOST_RULES, MOST_STATES, SYMBOLS};
 use crate::call::{Call, Lengths, Operation, LONGEST_BOOK, LONGEST_TAPE as LONGEST_SENT};
 use crate::chance::Chance;
@@ -174,9 +175,9 @@ fn long_output(chance: &mut Chance) -> Call {
     call
 }
 
-/// Accounts of about as many words as can be lent: 228 symbols have 26,106 stretches, 130,530 words.
+/// Accounts of about as many words as can be lent: 208 symbols have 21,736 stretches, 130,416 words.
 fn long_account(chance: &mut Chance) -> Call {
-    let length = chance.between(226, 230);
+    let length = chance.between(206, 210);
     let mut call = Call::new(Operation::Account);
     call.book = draft::book(&[full::every_stretch(&[1])]);
     call.tape = (0..length).map(|_| chance.below(SYMBOLS) as u8).collect();
@@ -193,7 +194,7 @@ fn every_candidate(rules: usize, chance: &mut Chance) -> Call {
     call.book = draft::book(&vec![full::every_stretch(&[]); rules]);
     call.tape = repeated(&[1, 2], LONGEST_TAPE);
     let (rows, sets) = (workspace::ROW_BYTES, workspace::SETS);
-    let lines = chance.pick(&[0, 5, crate::call::MOST_LINE_WORDS]);
+    let lines = chance.pick(&[0, WORDS_A_LINE, crate::call::MOST_LINE_WORDS]);
     call.lengths = Lengths { rows, sets, scratch: LONGEST_TAPE + 1, lines, ..Lengths::default() };
     call
 }

@@ -1,7 +1,12 @@
 //! Inputs for the program: lines at random, and the ways an input can end.
 
+use crate::account::WORDS_A_LINE;
 use crate::chance::Chance;
 use crate::operations::LONGEST_TAPE;
+use crate::program::ACCOUNT_WORDS;
+
+/// The lines that the program's account has room for: 1,000.
+const ACCOUNT_LINES: usize = ACCOUNT_WORDS / WORDS_A_LINE;
 
 /// Inputs with `count` tapes in all: small ones for the ways an input can end, then one with all the rest.
 pub fn inputs(seed: u64, count: usize) -> Vec<Vec<u8>> {
@@ -33,9 +38,9 @@ fn input(chance: &mut Chance, tapes: usize) -> Vec<u8> {
 fn line(chance: &mut Chance) -> Vec<u8> {
     let mut line = match chance.weighted(&[(400, 0), (4, 1), (4, 2), (3, 3), (1, 4)]) {
         0 => touches(chance),
-        // 1,200 lines of account are 6,000 words; one candidate for each "245".
-        1 => repeated(b"245", 3 * chance.between(1198, 1202)),
-        2 => repeated(b"12400", chance.between(2990, 3010)),
+        // One candidate for each "245", two for each "12400": as many as there is room for, a few fewer or more.
+        1 => repeated(b"245", 3 * chance.between(ACCOUNT_LINES - 2, ACCOUNT_LINES + 2)),
+        2 => repeated(b"12400", chance.between(5 * ACCOUNT_LINES / 2 - 10, 5 * ACCOUNT_LINES / 2 + 10)),
         3 => repeated(b"2334", chance.between(LONGEST_TAPE - 1, LONGEST_TAPE + 2)),
         _ => repeated(b"0", chance.between(LONGEST_TAPE, 20 * LONGEST_TAPE)),
     };
