@@ -2,7 +2,7 @@
 
 use std::cell::OnceCell;
 
-use crate::account::{self, WORDS_A_LINE};
+use crate::account::{self, FIVE_WORDS, WORDS_A_LINE};
 use crate::agreement::Agreement;
 use crate::answer::{Answer, Lent};
 use crate::book::{self, Book, Refusal, SYMBOLS};
@@ -118,11 +118,13 @@ fn account(call: &Call, lent: &mut Lent, agreement: &Agreement) -> Result<Counts
     let length = account::length(&stretches, reading);
     // Document 02, No. 1: "15 now counts six words a candidate."
     let needed = WORDS_A_LINE * length;
-    if !room(lent.lines.len(), needed, reading) {
+    let enough = reading.value(needed, Wrong::RoomOfFive, FIVE_WORDS * length);
+    if !room(lent.lines.len(), enough, reading) {
         if reading.is(Wrong::RoomWritesFront) && length <= LONGEST_TAPE {
             write_front(&mut lent.lines, &account::lines(&stretches, reading).concat(), reading);
         }
         let needed = reading.value(needed, Wrong::RoomInLines, length);
+        let needed = reading.value(needed, Wrong::RoomInFives, FIVE_WORDS * length);
         return Err(no_room(lent, untouched, needed, call.lengths.lines, reading));
     }
     let lines = account::lines(&stretches, reading);

@@ -1,6 +1,6 @@
 //! The program: document 01, "House book and program".
 
-use crate::account::WORDS_A_LINE;
+use crate::account::{FIVE_WORDS, WORDS_A_LINE};
 use crate::answer::Answer;
 use crate::call::{Call, Lengths, Operation};
 use crate::house;
@@ -65,6 +65,7 @@ fn symbol(byte: u8, reading: Reading) -> u8 {
 fn calls(book: &[u8], tape: &[u8], reading: Reading) -> (Answer, Answer) {
     let account = reading.value(ACCOUNT_WORDS, Wrong::AccountOf5999, ACCOUNT_WORDS - 1);
     let account = reading.value(account, Wrong::AccountOf6006, ACCOUNT_WORDS + WORDS_A_LINE);
+    let account = reading.value(account, Wrong::AccountOf7200, ACCOUNT_WORDS / FIVE_WORDS * WORDS_A_LINE);
     let mut call = Call::new(Operation::Rewrite);
     call.book = book.to_vec();
     call.tape = tape.to_vec();
@@ -94,13 +95,14 @@ fn tape_printed(output: &Answer, account: &Answer, reading: Reading) -> String {
         }
         return printed + &refusal_printed(account);
     }
-    let words = WORDS_A_LINE * account.counts[0] as usize;
-    printed + &account.lent.lines[..words].chunks(WORDS_A_LINE).map(line_printed).collect::<String>()
+    let lines = account.lent.lines.chunks_exact(WORDS_A_LINE).take(account.counts[0] as usize);
+    printed + &lines.map(|line| line_printed(line, reading)).collect::<String>()
 }
 
 /// "a C line per candidate"; document 02, No. 1: "SHOW and the printed C line follow."
-fn line_printed(line: &[u16]) -> String {
-    format!("C {}\n", spaced(line))
+fn line_printed(line: &[u16], reading: Reading) -> String {
+    let words = reading.value(WORDS_A_LINE, Wrong::FiveWordsPrinted, FIVE_WORDS);
+    format!("C {}\n", spaced(&line[..words]))
 }
 
 fn refusal_printed(answer: &Answer) -> String {

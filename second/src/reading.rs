@@ -1,4 +1,4 @@
-//! How document 01 is read: truly, or with one wrong reading put in.
+//! How document 01, with No. 1 of document 02, is read: truly, or with one wrong reading put in.
 //!
 //! A check that cannot fail is a defect, so every wrong reading below can be put into the reference
 //! (`--wrong NAME`), and the tests show that the fixed-seed run catches each of them.
@@ -145,6 +145,26 @@ wrong_readings! {
     PastTapeCut, "past-tape-cut", "SHOW cuts a stretch that goes past the tape.";
     EmptyPartAtEnd, "empty-part-at-end", "SHOW's empty part stands at the tape's end.";
 
+    // The sixth word: document 02, No. 1.
+    OwnRule, "own-rule", "Every line has its own rule as deciding rule.";
+    TakenUndecided, "taken-undecided", "Verdict 0 has 0 as deciding rule.";
+    LowestTakenRule, "lowest-taken-rule", "The lowest rule taken on the tape decides all that is not taken.";
+    HighestTakenRule, "highest-taken-rule", "The highest rule taken on the tape decides all that is not taken.";
+    LastTakenRule, "last-taken-rule", "The last stretch taken on the tape decides all that is not taken.";
+    ShorterLowestRule, "shorter-lowest-rule", "Verdict 1 has the lowest rule at that start as deciding rule.";
+    ShorterShortestRule, "shorter-shortest-rule", "Verdict 1 has the rule of the shortest candidate at that start.";
+    ShorterNextRule, "shorter-next-rule", "Verdict 1 has the rule of the next longer candidate at that start.";
+    TieNextRule, "tie-next-rule", "Verdict 2 has the next lower rule of that stretch, which need not be the taken one.";
+    InsideOwnRule, "inside-own-rule", "Verdict 3 has the candidate's own rule as deciding rule.";
+    InsideNextRule, "inside-next-rule", "Verdict 3 has the rule of the taken stretch after the deciding one.";
+    InsideEarlierRule, "inside-earlier-rule", "Verdict 3 has the rule of the taken stretch before the deciding one.";
+    InsideRuleAtEnd, "inside-rule-at-end", "Verdict 3 has the rule of the last taken stretch that the candidate meets.";
+    DecidingWordsSwapped, "deciding-words-swapped", "The deciding rule stands before the deciding start.";
+    RoomOfFive, "room-of-five", "Five words a candidate are room enough for the account.";
+    RoomInFives, "room-in-fives", "15 of ACCOUNT is placed at five words a candidate.";
+    ShowByFive, "show-by-five", "SHOW still reads lines of five words.";
+    SixthWordMissing, "sixth-word-missing", "SHOW reads a line whose sixth word is missing.";
+
     // The program.
     CapitalsRead, "capitals-read", "A to F are hex digits too.";
     ReturnDropped, "return-dropped", "A carriage return before the newline is dropped.";
@@ -155,18 +175,20 @@ wrong_readings! {
     EmptyOutputBlank, "empty-output-blank", "An empty output prints nothing in its place.";
     AccountOf5999, "account-of-5999", "The account has 5,999 words.";
     AccountOf6006, "account-of-6006", "The account has 6,006 words.";
+    AccountOf7200, "account-of-7200", "The account has 7,200 words, 1,200 lines as it had of five words.";
+    FiveWordsPrinted, "five-words-printed", "A C line still has five words.";
     ShortAccountAlone, "short-account-alone", "A short account prints X alone.";
     RefusalEndsRun, "refusal-ends-run", "A refusal ends the run, not the tape.";
 }
 
-/// How the reference reads document 01 in one run.
+/// How the reference reads the documents in one run.
 #[derive(Clone, Copy)]
 pub struct Reading {
     wrong: Option<Wrong>,
 }
 
 impl Reading {
-    /// Document 01 as it stands.
+    /// The documents as they stand.
     pub const TRUE: Reading = Reading { wrong: None };
 
     pub fn with(wrong: Wrong) -> Reading {

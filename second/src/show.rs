@@ -3,7 +3,7 @@
 
 use std::ops::Range;
 
-use crate::account::WORDS_A_LINE;
+use crate::account::{FIVE_WORDS, WORDS_A_LINE};
 use crate::reading::{Reading, Wrong};
 
 /// The part of the tape that SHOW hands back.
@@ -30,11 +30,13 @@ fn stretch(account: &[u16], line: u32, reading: Reading) -> Option<(usize, usize
         false => u64::from(line),
         true => u64::from(line).checked_sub(1)?,
     };
+    let words = reading.value(WORDS_A_LINE, Wrong::ShowByFive, FIVE_WORDS) as u64;
     let first = match reading.is(Wrong::LineWraps) {
-        false => line * WORDS_A_LINE as u64,
-        true => u64::from((line as u32).wrapping_mul(WORDS_A_LINE as u32)),
+        false => line * words,
+        true => u64::from((line as u32).wrapping_mul(words as u32)),
     };
-    let needed = reading.value(WORDS_A_LINE, Wrong::LineBegunIsEnough, 3) as u64;
+    let needed = reading.value(words, Wrong::LineBegunIsEnough, 3);
+    let needed = reading.value(needed, Wrong::SixthWordMissing, FIVE_WORDS as u64);
     let needed = reading.value(needed, Wrong::LastLineHidden, needed + 1);
     if first + needed > account.len() as u64 {
         return None;

@@ -13,7 +13,7 @@ const SEED: u64 = 1;
 const TAPES: usize = 1000;
 
 /// The wrong readings that concern the program alone.
-const OF_PROGRAM: [Wrong; 11] = [
+const OF_PROGRAM: [Wrong; 13] = [
     Wrong::CapitalsRead,
     Wrong::ReturnDropped,
     Wrong::OtherDropped,
@@ -23,6 +23,8 @@ const OF_PROGRAM: [Wrong; 11] = [
     Wrong::EmptyOutputBlank,
     Wrong::AccountOf5999,
     Wrong::AccountOf6006,
+    Wrong::AccountOf7200,
+    Wrong::FiveWordsPrinted,
     Wrong::ShortAccountAlone,
     Wrong::RefusalEndsRun,
 ];
