@@ -1,5 +1,5 @@
-//! The independent second program: what document 01 says, worked out by brute force, and compared with what the
-//! proved operations do. It shares no code, no table and no constant with them.
+//! The independent second program: what document 01 says, with No. 1 of document 02, worked out by brute force, and
+//! compared with what the proved operations do. It shares no code, no table and no constant with them.
 //!
 //! The reference is read in this order: `record`, `book`, `run`, `language`, `candidates`, `taken`, `stretches`,
 //! `output`, `account`, `sets`, `numbering`, `workspace`, `show`, `operations`, `program`; `agreement` says where `fast`

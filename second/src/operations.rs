@@ -19,7 +19,7 @@ pub const LONGEST_TAPE: usize = 4096;
 type Counts = [usize; 4];
 const NO_COUNTS: Counts = [0; 4];
 
-/// What document 01 says of a call.
+/// What the documents say of a call.
 pub fn answer(call: &Call, reading: Reading) -> Answer {
     answer_by(call, &Agreement::of(reading))
 }
