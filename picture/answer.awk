@@ -1,8 +1,9 @@
 # Reads the program's answer for one tape: W, O and a C line a candidate; or X; or W, O and X. An answer that cannot be
-# laid out over this tape is refused, and no page is written.
+# laid out over this tape is refused, and no page is written; so is one whose C lines do not agree on what was taken, since
+# then the page could not say which rule won.
 
 BEGIN {
-  LINE_WORDS = 5 # rule, start, end, verdict, deciding start
+  LINE_WORDS = 6 # rule, start, end, verdict, deciding start, deciding rule
   tape = ENVIRON["TAPE"] ""
   tape_length = length(tape)
   origins = candidates = 0
@@ -43,9 +44,12 @@ NR > 2 && given_output && !refused && /^C( [0-9]+)+$/ && NF == 1 + LINE_WORDS &&
   start[candidates] = $3 + 0
   end[candidates] = $4 + 0
   verdict[candidates] = $5 + 0
-  deciding[candidates] = $6 + 0
+  deciding_start[candidates] = $6 + 0
+  deciding_rule[candidates] = $7 + 0 # which rule won, wherever the page names it
   if ($3 + 0 >= $4 + 0 || $4 + 0 > tape_length) fail_line("the stretch is not one of this tape")
-  if ($5 == 0) taken_at[$3 + 0] = candidates
+  if ($5 == 0 && $6 + 0 != $3 + 0) fail_line("it is taken, and its deciding start is not its own")
+  if ($5 == 0 && $7 + 0 != $2 + 0) fail_line("it is taken, and its deciding rule is not its own")
+  if ($5 == 0) taken_at[$3 + 0] = candidates # where a line that lost finds the end of the deciding stretch
   candidates++
   next
 }
@@ -65,7 +69,13 @@ function check_answer(    i) {
   if (given_output && NR == 1) fail("the line O is missing")
   if (output_length != length(output) || output_length != origins) fail("W and O do not agree")
   for (i = 0; i < origins; i++) if (origin[i] > tape_length) fail("an origin is outside this tape")
-  for (i = 0; i < candidates; i++) if (!(deciding[i] in taken_at)) fail("no line is taken at start " deciding[i])
+  for (i = 0; i < candidates; i++) check_deciding(deciding_start[i], deciding_rule[i])
+}
+
+# what a line says of the deciding stretch, beside the line that was taken there
+function check_deciding(at, by) {
+  if (!(at in taken_at)) fail("no line is taken at start " at)
+  if (rule[taken_at[at]] != by) fail("the line taken at start " at " is of rule " rule[taken_at[at]] ", not of rule " by)
 }
 
 function symbol_at(position) { return substr(tape, position + 1, 1) }

@@ -51,9 +51,9 @@ function cell(x, position, c, kind, below,    middle, name) {
     (below == "" ? "" : text_at(middle, TOP + BOX + 14, "at", below)) "</g>"
 }
 
-# what a bar says of its verdict, in the room of one cell or of more; by is the rule taken at the deciding start
+# what a bar says of its verdict, in the room of one cell or of more
 function short_verdict(line, narrow,    by) {
-  by = rule[taken_at[deciding[line]]]
+  by = deciding_rule[line]
   if (verdict[line] == 0) return "taken"
   if (verdict[line] == 1) return narrow ? "shorter" : "shorter than taken"
   if (verdict[line] == 2) return narrow ? by " first" : "rule " by " comes first"

@@ -61,8 +61,9 @@ function print_output() {
 function print_account(    line) {
   print "<h2>In words</h2>"
   if (!candidates) { print "<p>No rule has a candidate on this tape.</p>"; return }
-  print "<p class=\"key\">Behind each sentence stands the program’s own line: rule, start, end, verdict, deciding start."
-  print "Its end is the position after the last one, so positions 1 to 5 stand there as 1 6.</p>\n<ul>"
+  print "<p class=\"key\">Behind each sentence stands the program’s own line: rule, start, end, verdict, deciding start,"
+  print "deciding rule. Its end is the position after the last one, so positions 1 to 5 stand there as 1 6; the deciding"
+  print "start and rule are those of the stretch that was taken.</p>\n<ul>"
   for (line = 0; line < candidates; line++)
     print "<li" (verdict[line] ? "" : " class=\"taken\"") "><span>" sentence(line) "</span>" \
       " <code>" printed[line] "</code></li>"

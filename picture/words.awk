@@ -60,17 +60,21 @@ function symbols_word(word,    i, run, groups, out) {
   return out
 }
 
-# document 01, "The account": one sentence a line. by is the taken line at the deciding start.
-function verdict_words(line, by) {
+# the positions of the deciding stretch
+function deciding_positions(line) { return positions_word(deciding_start[line], end[taken_at[deciding_start[line]]]) }
+
+# document 01, "The account": one sentence a line
+function verdict_words(line,    by) {
+  by = rule_word(deciding_rule[line])
   if (verdict[line] == 0) return "taken, replaced by " symbols_word(replacement(line))
-  if (verdict[line] == 1) return "shorter than " positions_word(start[by], end[by]) ", taken at the same start"
-  if (verdict[line] == 2) return "same stretch, " rule_word(rule[by]) " comes first"
-  return "starts inside " positions_word(start[by], end[by]) ", taken by " rule_word(rule[by])
+  if (verdict[line] == 1) return "shorter than " deciding_positions(line) ", taken at the same start by " by
+  if (verdict[line] == 2) return "same stretch, " by " comes first"
+  return "starts inside " deciding_positions(line) ", taken by " by
 }
 
 function sentence(line) {
   return positions_word(start[line], end[line]) ", " symbols_word(stretch(line)) ", " rule_word(rule[line]) ": " \
-    verdict_words(line, taken_at[deciding[line]])
+    verdict_words(line)
 }
 
 # document 01, "Reply numbers"
