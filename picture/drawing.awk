@@ -51,13 +51,15 @@ function cell(x, position, c, kind, below,    middle, name) {
     (below == "" ? "" : text_at(middle, TOP + BOX + 14, "at", below)) "</g>"
 }
 
+# the deciding stretch by its rule; a rule that lost to a stretch of its own has its number in the bar already
+function short_winner(line) { return deciding_rule[line] == rule[line] ? "taken" : "rule " deciding_rule[line] }
+
 # what a bar says of its verdict, in the room of one cell or of more
-function short_verdict(line, narrow,    by) {
-  by = deciding_rule[line]
+function short_verdict(line, narrow) {
   if (verdict[line] == 0) return "taken"
-  if (verdict[line] == 1) return narrow ? "shorter" : "shorter than taken"
-  if (verdict[line] == 2) return narrow ? by " first" : "rule " by " comes first"
-  return narrow ? "inside" : "starts inside taken"
+  if (verdict[line] == 1) return narrow ? "shorter" : "shorter than " short_winner(line)
+  if (verdict[line] == 2) return narrow ? deciding_rule[line] " first" : "rule " deciding_rule[line] " comes first"
+  return narrow ? "inside" : "starts inside " short_winner(line)
 }
 
 function short_rule(line, narrow) {
