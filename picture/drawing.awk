@@ -79,9 +79,10 @@ function outline(left, right, y, cut_left, cut_right) {
   return "M" left " " y "H" right (cut_right ? "M" right " " y + BAR : "V" y + BAR) "H" left (cut_left ? "" : "V" y)
 }
 
-# rule and verdict, in the middle of the cells from from up to and not including upto
+# Rule and verdict, in the middle of the cells from from up to and not including upto. That is the middle of a cut bar too:
+# teeth take about as much of its last cell as the gap at an end that is not cut.
 function bar_words(line, first, from, upto, y, where,    x, narrow) {
-  x = (from + upto - 2 * first) * CELL / 2 + 3 * ((start[line] < from) - (end[line] > upto))
+  x = (from + upto - 2 * first) * CELL / 2
   narrow = upto - from == 1
   print "<g class=\"words" (narrow ? " narrow" : "") where "\">" text_at(x, y + 13, "", short_rule(line, narrow)) \
     text_at(x, y + 26, "", short_verdict(line, narrow)) "</g>"
