@@ -39,7 +39,7 @@ enum {
     QAFRENDI_SET_WORDS = 2 * QAFRENDI_MOST_SETS,
     QAFRENDI_SCRATCH = QAFRENDI_LONGEST_TAPE + 1,
     QAFRENDI_LONGEST_OUT = QAFRENDI_LONGEST_WORD * QAFRENDI_LONGEST_TAPE,
-    QAFRENDI_LINE_WORDS = 5
+    QAFRENDI_LINE_WORDS = 6
 };
 
 /* Replies                            given when                                                           place */
@@ -68,7 +68,8 @@ enum {
     QAFRENDI_START = 1,
     QAFRENDI_END = 2,
     QAFRENDI_VERDICT = 3,
-    QAFRENDI_DECIDING_START = 4 /* of the taken stretch */
+    QAFRENDI_DECIDING_START = 4, /* of the taken stretch, */
+    QAFRENDI_DECIDING_RULE = 5   /* and its rule: which one beat this line's; both its own where it is taken */
 };
 
 /* Verdicts. */

@@ -47,4 +47,4 @@ pub const MOST_SETS: usize = 256;
 pub const PAIRS: usize = SYMBOLS * MOST_SETS;
 pub const ROW_BYTES: usize = 2 * PAIRS;
 pub const SET_WORDS: usize = 2 * MOST_SETS;
-pub const LINE: usize = 5;
+pub const LINE: usize = 6;

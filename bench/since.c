@@ -1,0 +1,142 @@
+/* The time of each operation over its time in an earlier commit's library, both called in turns in one run.
+ *
+ * since DIR: DIR holds what src/bin/inputs.rs writes. The earlier library's functions are here under the names before_*. Each number is the
+ * median over ROUNDS of the quotient of two neighbouring turns, by the thread's own time on the processor; both may have any reply. */
+#define _POSIX_C_SOURCE 199309L
+#include <stdio.h>
+#include <stdlib.h>
+#include <string.h>
+#include <time.h>
+
+#include "qafrendi.h"
+
+enum {
+    ROUNDS = 301,
+    TURN = 1000000,           /* nanoseconds that a turn takes at least */
+    ROOM = 1 << 14,           /* more than any book or tape of the inputs has, and than any workspace needs */
+    WORDS = 1 << 19,          /* of an account */
+    TEXT = 1 << 12
+};
+
+__typeof__(qafrendi_check) before_check;
+__typeof__(qafrendi_build) before_build;
+__typeof__(qafrendi_rewrite) before_rewrite;
+__typeof__(qafrendi_account) before_account;
+
+static uint8_t book[ROOM], tape[ROOM], rows[ROOM], scratch[ROOM], out[QAFRENDI_LONGEST_OUT];
+static uint64_t sets[ROOM];
+static uint16_t origins[QAFRENDI_LONGEST_OUT], lines[WORDS];
+static size_t book_length, tape_length;
+
+/* Each side of each operation: what it does once, and its reply. */
+#define SIDES(side) \
+    static int side##_check_once(void) { return side##_check(book, book_length).reply; } \
+    static int side##_build_once(void) { return side##_build(book, book_length, rows, ROOM, sets, ROOM).reply; } \
+    static int side##_rewrite_once(void) \
+    { \
+        return side##_rewrite(book, book_length, tape, tape_length, rows, ROOM, sets, ROOM, scratch, ROOM, \
+            out, QAFRENDI_LONGEST_OUT, origins, QAFRENDI_LONGEST_OUT).reply; \
+    } \
+    static int side##_account_once(void) \
+    { \
+        return side##_account(book, book_length, tape, tape_length, rows, ROOM, sets, ROOM, scratch, ROOM, lines, WORDS).reply; \
+    }
+SIDES(qafrendi)
+SIDES(before)
+
+typedef int call(void);
+
+static const struct operation {
+    const char *name;
+    call *now, *before;
+} operations[] = {
+    {"CHECK", qafrendi_check_once, before_check_once},
+    {"BUILD", qafrendi_build_once, before_build_once},
+    {"REWRITE", qafrendi_rewrite_once, before_rewrite_once},
+    {"ACCOUNT", qafrendi_account_once, before_account_once},
+};
+
+enum { OPERATIONS = sizeof operations / sizeof *operations };
+
+static double clock_now(void)
+{
+    struct timespec t;
+    clock_gettime(CLOCK_THREAD_CPUTIME_ID, &t);
+    return 1e9 * t.tv_sec + t.tv_nsec;
+}
+
+/* nanoseconds of so many calls */
+static double turn(call *f, long calls)
+{
+    double begun = clock_now();
+    for (long i = 0; i < calls; i++)
+        f();
+    return clock_now() - begun;
+}
+
+static int ascending(const void *a, const void *b)
+{
+    double x = *(const double *)a, y = *(const double *)b;
+    return (x > y) - (x < y);
+}
+
+static double ratio(const struct operation *o)
+{
+    static double quotients[ROUNDS];
+    long calls = 1;
+    while (turn(o->now, calls) < TURN)
+        calls *= 2;
+    for (int i = 0; i < ROUNDS; i++) {
+        /* first and second change places, so that no side always follows the other's memory */
+        double first = turn(i % 2 ? o->now : o->before, calls), second = turn(i % 2 ? o->before : o->now, calls);
+        quotients[i] = i % 2 ? first / second : second / first;
+    }
+    qsort(quotients, ROUNDS, sizeof *quotients, ascending);
+    return quotients[ROUNDS / 2];
+}
+
+static size_t load(uint8_t *to, const char *folder, const char *name, const char *kind)
+{
+    char path[2 * TEXT];
+    snprintf(path, sizeof path, "%s/%s%s", folder, name, kind);
+    FILE *file = fopen(path, "rb");
+    if (!file) {
+        fprintf(stderr, "since: %s cannot be read\n", path);
+        exit(1);
+    }
+    size_t length = fread(to, 1, ROOM, file);
+    fclose(file);
+    return length;
+}
+
+static void measure(const char *folder, const char *name)
+{
+    book_length = load(book, folder, name, ".book");
+    tape_length = load(tape, folder, name, ".tape");
+    printf("%-32s", name);
+    for (int i = 0; i < OPERATIONS; i++) {
+        int now = operations[i].now(), before = operations[i].before();
+        printf("  x%.2f", ratio(&operations[i]));
+        if (now == before)
+            printf(" %-8s", now ? "refused" : "");
+        else
+            printf(" %2d, %2d  ", now, before);
+        fflush(stdout);
+    }
+    printf("\n");
+}
+
+int main(int count, char **words)
+{
+    static uint8_t names[ROOM];
+    if (count != 2)
+        return 2;
+    names[load(names, words[1], "names", "") % ROOM] = 0;
+    printf("%-32s", "time over the earlier one's");
+    for (int i = 0; i < OPERATIONS; i++)
+        printf("  %-14s", operations[i].name);
+    printf("\n");
+    for (char *name = strtok((char *)names, "\n"); name; name = strtok(0, "\n"))
+        measure(words[1], name);
+    return 0;
+}
