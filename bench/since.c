@@ -1,7 +1,8 @@
 /* The time of each operation over its time in an earlier commit's library, both called in turns in one run.
  *
- * since DIR: DIR holds what src/bin/inputs.rs writes. The earlier library's functions are here under the names before_*. Each number is the
- * median over ROUNDS of the quotient of two neighbouring turns, by the thread's own time on the processor; both may have any reply. */
+ * since DIR: DIR holds what src/bin/inputs.rs writes. The functions of the earlier library have the names before_*, those of this tree's the
+ * names now_*. Each number is the median over ROUNDS of the quotient of two neighbouring turns, by the thread's own time on the processor.
+ * Behind it stands "refused" where both refuse, and both replies where they differ. */
 #define _POSIX_C_SOURCE 199309L
 #include <stdio.h>
 #include <stdlib.h>
@@ -18,10 +19,13 @@ enum {
     TEXT = 1 << 12
 };
 
-__typeof__(qafrendi_check) before_check;
-__typeof__(qafrendi_build) before_build;
-__typeof__(qafrendi_rewrite) before_rewrite;
-__typeof__(qafrendi_account) before_account;
+#define FUNCTIONS(side) \
+    __typeof__(qafrendi_check) side##_check; \
+    __typeof__(qafrendi_build) side##_build; \
+    __typeof__(qafrendi_rewrite) side##_rewrite; \
+    __typeof__(qafrendi_account) side##_account;
+FUNCTIONS(before)
+FUNCTIONS(now)
 
 static uint8_t book[ROOM], tape[ROOM], rows[ROOM], scratch[ROOM], out[QAFRENDI_LONGEST_OUT];
 static uint64_t sets[ROOM];
@@ -41,7 +45,7 @@ static size_t book_length, tape_length;
     { \
         return side##_account(book, book_length, tape, tape_length, rows, ROOM, sets, ROOM, scratch, ROOM, lines, WORDS).reply; \
     }
-SIDES(qafrendi)
+SIDES(now)
 SIDES(before)
 
 typedef int call(void);
@@ -50,10 +54,10 @@ static const struct operation {
     const char *name;
     call *now, *before;
 } operations[] = {
-    {"CHECK", qafrendi_check_once, before_check_once},
-    {"BUILD", qafrendi_build_once, before_build_once},
-    {"REWRITE", qafrendi_rewrite_once, before_rewrite_once},
-    {"ACCOUNT", qafrendi_account_once, before_account_once},
+    {"CHECK", now_check_once, before_check_once},
+    {"BUILD", now_build_once, before_build_once},
+    {"REWRITE", now_rewrite_once, before_rewrite_once},
+    {"ACCOUNT", now_account_once, before_account_once},
 };
 
 enum { OPERATIONS = sizeof operations / sizeof *operations };

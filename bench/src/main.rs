@@ -117,7 +117,7 @@ fn account(cases: &Cases, pace: Pace, short: bool) {
     if short {
         println!("every stretch, 16 rules, {TAPE} symbols: not in a short run");
     } else if memory() < 4 << 30 {
-        println!("every stretch, 16 rules, {TAPE} symbols: needs 1.4 GB for its lines, left out on this machine");
+        println!("every stretch, 16 rules, {TAPE} symbols: needs 1.6 GB for its lines, left out on this machine");
     } else {
         table::print(&measure::longest_account("every stretch, 16 rules, once", &cases.every, &cases.random[0]));
     }
