@@ -66,7 +66,14 @@ fn write(ready: &Ready, lines: &mut [u16]) {
             for rule in (0..ready.outline.rules).filter(|rule| ready.rule_hits(*rule, set, right)) {
                 let line = places.next().expect("counted before");
                 let verdict = deciding.verdict(i, end, rule);
-                line.copy_from_slice(&[rule as u16, i as u16, end as u16, verdict, deciding.start as u16, deciding.rule as u16]);
+                line.copy_from_slice(&[
+                    rule as u16,
+                    i as u16,
+                    end as u16,
+                    verdict,
+                    deciding.start as u16,
+                    deciding.rule as u16,
+                ]);
             }
         })
     });
