@@ -87,6 +87,14 @@ int main(void)
         printf(" %d", lines[i]);
     printf("\n");
 
+    /* which rule beat which: the finish of rule 2 lost to the noise of rule 0 */
+    for (size_t line = 0; line < a.candidates; line++) {
+        const uint16_t *words = lines + QAFRENDI_LINE_WORDS * line;
+        if (words[QAFRENDI_VERDICT] != QAFRENDI_TAKEN)
+            printf("line %zu: rule %d lost to rule %d, taken at %d\n", line, words[QAFRENDI_RULE], words[QAFRENDI_DECIDING_RULE],
+                   words[QAFRENDI_DECIDING_START]);
+    }
+
     for (size_t line = 0; line < LINES; line++) {
         qafrendi_stretch s = qafrendi_show(TAPE, lines, QAFRENDI_LINE_WORDS * a.candidates, line);
         printf("show %zu: %zu to %zu:", line, s.start, s.end);
