@@ -13,9 +13,9 @@
 
 enum {
     ROUNDS = 301,
-    TURN = 1000000,           /* nanoseconds that a turn takes at least */
-    ROOM = 1 << 14,           /* more than any book or tape of the inputs has, and than any workspace needs */
-    WORDS = 1 << 19,          /* of an account */
+    TURN = 1000000,  /* nanoseconds that a turn takes at least */
+    ROOM = 1 << 14,  /* more than any book or tape of the inputs has, and than any workspace needs */
+    WORDS = 1 << 19, /* of an account */
     TEXT = 1 << 12
 };
 
@@ -110,6 +110,10 @@ static size_t load(uint8_t *to, const char *folder, const char *name, const char
     }
     size_t length = fread(to, 1, ROOM, file);
     fclose(file);
+    if (length == ROOM) {
+        fprintf(stderr, "since: %s is too long\n", path);
+        exit(1);
+    }
     return length;
 }
 
@@ -135,7 +139,7 @@ int main(int count, char **words)
     static uint8_t names[ROOM];
     if (count != 2)
         return 2;
-    names[load(names, words[1], "names", "") % ROOM] = 0;
+    names[load(names, words[1], "names", "")] = 0;
     printf("%-32s", "time over the earlier one's");
     for (int i = 0; i < OPERATIONS; i++)
         printf("  %-14s", operations[i].name);
