@@ -17,7 +17,7 @@ use Rattle.sets.specs.Workspace.{rowBytes, setWords}
 use Rattle.stretches.specs.Buffers.{longestTape}
 use Rattle.stretches.specs.Lists.{greatest}
 use Rattle.rewriter.specs.Replies.{firstBad, refusal, early}
-use Rattle.rewriter.specs.Opening.{Symbols}
+use Rattle.rewriter.specs.Opening.{Symbols, tapeRefusal}
 use Rattle.rewriter.specs.declared.Refusal.{Refusal}
 use Rattle.stretches.proofs.Greatest.{greatest-all}
 
@@ -39,7 +39,7 @@ head-good : (test : Bool) (n m : ℕ) → suc n ≤ cond test (suc m) 0 → (tes
 head-good true n m h = (refl, omega arith)
 head-good false n m h = absurd (omega arith)
 
-all-good : (t : List ℕ) → length t ≤ firstBad t → Symbols t
+pub all-good : (t : List ℕ) → length t ≤ firstBad t → Symbols t
 unfolding firstBad
 all-good [] h i g = absurd (omega arith)
 all-good (x ∷ t) h zero g = ltb-true x symbolCount (head-good (ltb x symbolCount) (length t) (firstBad t) h .0)
@@ -54,6 +54,41 @@ none-bad (x ∷ t) h = simp (lt-ltb x symbolCount (h 0 (omega arith))) (ap suc (
 pub bad-none : (t : List ℕ) (top : ℕ) → top ≡ greatest 0 t → top < symbolCount → length t ≡ firstBad t
 bad-none t top e h = sym (none-bad t (λ i g. omega (arith, greatest-all t 0 i g)))
 
+-- a tape's own refusals: each way down, and what a tape has that neither refuses
+module _ (tape : List ℕ) where
+  pub tape-long : longestTape < length tape → refusal 9 0 ≡ tapeRefusal tape
+  unfolding tapeRefusal
+  tape-long h = simp (lt-ltb _ _ h)
+
+  module _ (fits : length tape ≤ longestTape) where
+    pub tape-bad : firstBad tape < length tape → refusal 10 (firstBad tape) ≡ tapeRefusal tape
+    unfolding tapeRefusal
+    tape-bad h = simp (le-ltb _ _ fits, lt-ltb _ _ h)
+
+    pub tape-good : length tape ≤ firstBad tape → refusal 0 0 ≡ tapeRefusal tape
+    unfolding tapeRefusal
+    tape-good h = simp (le-ltb _ _ fits, le-ltb _ _ h)
+
+past : (test : Bool) (n p : ℕ) (rest : Refusal) → cond test (refusal (suc n) p) rest .reply ≡ 0 → (test ≡ false) × (rest .reply ≡ 0)
+past true n p rest e = absurd (let q : suc n ≡ 0 = e in omega arith)
+past false n p rest e = (refl, e)
+
+pub tape-passed : (tape : List ℕ) → tapeRefusal tape .reply ≡ 0 → (length tape ≤ longestTape) × (length tape ≤ firstBad tape)
+unfolding tapeRefusal
+tape-passed tape e =
+    let p9 = past (ltb longestTape (length tape)) 8 0 _ e in
+    let p10 = past (ltb (firstBad tape) (length tape)) 9 (firstBad tape) _ (p9 .1) in
+    (ltb-false _ _ (p9 .0), ltb-false _ _ (p10 .0))
+
+pub tape-not-15 : (tape : List ℕ) → tapeRefusal tape .reply ≡ 15 → ⊥
+unfolding tapeRefusal
+tape-not-15 tape = by (ltb longestTape (length tape)) (ltb (firstBad tape) (length tape))
+  where
+    by : (a b : Bool) → cond a (refusal 9 0) (cond b (refusal 10 (firstBad tape)) (refusal 0 0)) .reply ≡ 15 → ⊥
+    by true b e = let q : _≡_ {A = ℕ} 9 15 = e in omega arith
+    by false true e = let q : _≡_ {A = ℕ} 10 15 = e in omega arith
+    by false false e = let q : _≡_ {A = ℕ} 0 15 = e in omega arith
+
 -- each way down, with the tests before it in hand
 module _ (book tape : List ℕ) (rows sets scratch : ℕ) where
   pub early-book : (checkDef book .reply ≡ 0 → ⊥) → refusal (checkDef book .reply) (checkDef book .place) ≡ early book tape rows sets scratch
@@ -61,15 +96,17 @@ module _ (book tape : List ℕ) (rows sets scratch : ℕ) where
   early-book h = simp (ne-eqb _ _ h)
 
   module _ (z : checkDef book .reply ≡ 0) where
-    pub early-long : longestTape < length tape → refusal 9 0 ≡ early book tape rows sets scratch
-    unfolding early
-    early-long h = simp (eq-eqb _ _ z, lt-ltb _ _ h)
+    pub early-tape : (tapeRefusal tape .reply ≡ 0 → ⊥) → tapeRefusal tape ≡ early book tape rows sets scratch
+    unfolding early tapeRefusal
+    early-tape h = simp (eq-eqb _ _ z) (by (ltb longestTape (length tape)) (ltb (firstBad tape) (length tape)) _ h)
+      where
+        by : (a b : Bool) (rest : Refusal) → (cond a (refusal 9 0) (cond b (refusal 10 (firstBad tape)) (refusal 0 0)) .reply ≡ 0 → ⊥)
+            → cond a (refusal 9 0) (cond b (refusal 10 (firstBad tape)) (refusal 0 0)) ≡ cond a (refusal 9 0) (cond b (refusal 10 (firstBad tape)) rest)
+        by true b rest h = refl
+        by false true rest h = refl
+        by false false rest h = absurd (h refl)
 
     module _ (fits : length tape ≤ longestTape) where
-      pub early-bad : firstBad tape < length tape → refusal 10 (firstBad tape) ≡ early book tape rows sets scratch
-      unfolding early
-      early-bad h = simp (eq-eqb _ _ z, le-ltb _ _ fits, lt-ltb _ _ h)
-
       module _ (good : length tape ≤ firstBad tape) where
         pub early-rows : rows < rowBytes → refusal 11 0 ≡ early book tape rows sets scratch
         unfolding early
@@ -96,10 +133,6 @@ pub record Admitted (book tape : List ℕ) (rows sets scratch : ℕ) : Type 0 wh
   pub rows-room : rowBytes ≤ rows
   pub sets-room : setWords ≤ sets
   pub scratch-room : length tape < scratch
-
-past : (test : Bool) (n p : ℕ) (rest : Refusal) → cond test (refusal (suc n) p) rest .reply ≡ 0 → (test ≡ false) × (rest .reply ≡ 0)
-past true n p rest e = absurd (let q : suc n ≡ 0 = e in omega arith)
-past false n p rest e = (refl, e)
 
 past-book : (r p : ℕ) (rest : Refusal) → cond (not (eqb r 0)) (refusal r p) rest .reply ≡ 0 → (r ≡ 0) × (rest .reply ≡ 0)
 past-book r p rest e = by (ℕ-discrete r 0)

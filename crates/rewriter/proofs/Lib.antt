@@ -6,6 +6,7 @@ pub mod MakeReady
 pub mod Whole
 pub mod Showing
 pub mod ShownAfter
+pub mod Standing
 -- What the crates above may rely on, and the theorems on one page.
 pub mod Callers
 pub mod One

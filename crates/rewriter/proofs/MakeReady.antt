@@ -50,7 +50,7 @@ module _ (book tape rows sets scratch : List ℕ) where
   building = buildDef book rows sets
 
   -- "1 to 12 change no buffer."
-  refused-is : (opening .reply ≡ 0 → ⊥) → readyDef book tape rows sets scratch ≡ readyLeaves opening rows sets scratch
+  pub refused-is : (opening .reply ≡ 0 → ⊥) → readyDef book tape rows sets scratch ≡ readyLeaves opening rows sets scratch
   unfolding readyDef
   refused-is h = simp (ne-eqb _ _ h)
 
@@ -60,7 +60,7 @@ module _ (book tape rows sets scratch : List ℕ) where
   unfolding readyDef
   unbuilt-is z h = simp (eq-eqb _ _ z, ne-eqb _ _ h)
 
-  ready-is : opening .reply ≡ 0 → building .answer .reply ≡ 0 → readyDef book tape rows sets scratch
+  pub ready-is : opening .reply ≡ 0 → building .answer .reply ≡ 0 → readyDef book tape rows sets scratch
       ≡ readyLeaves (refusal (building .answer .reply) 0) (building .rows) (building .sets) (onto (rightNumbers (bookOf book) tape) scratch)
   unfolding readyDef
   ready-is z y = simp (eq-eqb (opening .reply) 0 z, eq-eqb (building .answer .reply) 0 y)

@@ -1,12 +1,18 @@
 -- What the functions before the forward passes hand on, for their contracts: the refusal with the number of the book's rules, the greatest symbol,
 -- and the numbers of the right sets as the code walks to them. What the refusals and the numbers are is `early` and `rightNumbers` of Replies.
 use Prim.Native.Nat.{ℕ, suc, _<_}
+use mathlib.Core.Path.{_≡_}
 use mathlib.Core.List.{List, map}
+use mathlib.Core.Bool.{cond}
+use lib.Dec.{leb, ltb, eqb}
 use lib.ListN.{length, drop, getD}
 use Rattle.book.specs.Format.{symbolCount}
 use Rattle.book.specs.Language.{upFrom}
 use Rattle.sets.specs.Sets.{before}
 use Rattle.sets.specs.Tables.{rightEntry}
+use Rattle.sets.specs.Workspace.{buildDef}
+use Rattle.stretches.specs.Buffers.{longestTape, onto}
+use Rattle.rewriter.specs.Replies.{firstBad, refusal}
 use Rattle.rewriter.specs.declared.Refusal.{Refusal}
 use Rattle.rewriter.specs.declared.refusals.Opened.{Opened}
 
@@ -23,3 +29,36 @@ rightNumber rows t i = before 0 (rightEntry rows) (drop i t)
 
 unfoldable pub rightAll : List ℕ → List ℕ → List ℕ
 rightAll rows t = map (rightNumber rows t) (upFrom 0 (suc (length t)))
+
+-- rows and sets are as BUILD leaves them for the book: it would accept, and change nothing
+pub record AsBuilt (book rows sets : List ℕ) : Type 0 where
+  pub accepts : buildDef book rows sets .answer .reply ≡ 0
+  pub same-rows : buildDef book rows sets .rows ≡ rows
+  pub same-sets : buildDef book rows sets .sets ≡ sets
+
+-- the refusals of a tape alone, 9 and 10; after a build those of a tape and its scratch, 9, 10 and 12
+unfoldable pub tapeRefusal : List ℕ → Refusal
+tapeRefusal tape =
+    cond (ltb longestTape (length tape)) (refusal 9 0)
+    (cond (ltb (firstBad tape) (length tape)) (refusal 10 (firstBad tape))
+    (refusal 0 0))
+
+unfoldable pub tapeTests : List ℕ → ℕ → Refusal
+tapeTests tape scratch =
+    cond (eqb (tapeRefusal tape .reply) 0)
+    (cond (leb scratch (length tape)) (refusal 12 0) (refusal 0 0))
+    (tapeRefusal tape)
+
+-- and what stands after the backward pass, by the right rows
+pub record AfterOpening : Type 0 where
+  pub answer : Refusal
+  pub scratch : List ℕ
+
+abbrev pub opens : Refusal → List ℕ → AfterOpening
+opens answer scratch = record { answer = answer; scratch = scratch }
+
+unfoldable pub openDef : List ℕ → List ℕ → List ℕ → AfterOpening
+openDef rows tape scratch =
+    cond (eqb (tapeTests tape (length scratch) .reply) 0)
+    (opens (tapeTests tape (length scratch)) (onto (rightAll rows tape) scratch))
+    (opens (tapeTests tape (length scratch)) scratch)

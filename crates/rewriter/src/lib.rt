@@ -1,9 +1,12 @@
 // The rewriter: REWRITE, ACCOUNT and SHOW.
 ghost use mathlib.Core.Path.{_≡_};
+ghost use lib.ListN.{length};
+ghost use Rattle.book.specs.Reading.{bookOf};
 ghost use Rattle.rewriter.specs.Replies.{rewriteLeaves, rewriteDef, accountLeaves, accountDef};
+ghost use Rattle.rewriter.specs.Opening.{AsBuilt};
 
 mod refusals; // refusals.rt: the refusals before anything is built
-mod ready; // ready.rt: what REWRITE and ACCOUNT share
+mod ready; // ready.rt: what REWRITE and ACCOUNT share, and one tape after a build
 pub mod shown; // shown.rt: the stretch of the tape that a line of an account names
 
 pub use lines::Accounted;
@@ -47,6 +50,36 @@ pub fn rewrite(
         };
     }
     output::rewrite_ready(book, tape, rows, sets, scratch, opened.rules, out, origins)
+}
+
+// REWRITE where rows and sets are as BUILD left them for this book: nothing is checked or built again, and the answer is REWRITE's. Public,
+// and with a `requires`: who rewrites many tapes after one build calls it once a tape.
+pub fn rewrite_built(
+    book: &[u8],
+    tape: &[u8],
+    rules: usize,
+    rows: &[u8],
+    sets: &[u64],
+    scratch: &mut [u8],
+    out: &mut [u8],
+    origins: &mut [u16],
+) -> Rewritten
+    requires { ⌜ AsBuilt (now book) (now rows) (now sets) ⌝ }
+    requires { ⌜ rules ≡ length (bookOf (now book) .words) ⌝ }
+    ensures { λ r. ⌜ rewriteLeaves r (now (rows .entry)) (now (sets .entry)) (now (scratch .exit)) (now (out .exit)) (now (origins .exit))
+        ≡ rewriteDef (now (book .entry)) (now (tape .entry)) (now (rows .entry))
+        (now (sets .entry)) (now (scratch .entry)) (now (out .entry)) (now (origins .entry)) ⌝ }
+{
+    let refusal = ready::tape_ready(tape, rows, scratch);
+    if refusal.reply != 0 {
+        return Rewritten {
+            reply: refusal.reply,
+            place: refusal.place,
+            length: 0,
+            taken: 0,
+        };
+    }
+    output::rewrite_ready(book, tape, rows, sets, scratch, rules, out, origins)
 }
 
 // Document 01's ACCOUNT: any book, any tape and any buffers get their reply.

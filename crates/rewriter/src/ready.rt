@@ -1,4 +1,4 @@
-// What REWRITE and ACCOUNT share: check, tape, workspace, scratch, build, backward pass.
+// What REWRITE and ACCOUNT share: check, tape, workspace, scratch, build, backward pass; and what is left of it for one tape after a build.
 ghost use mathlib.Core.Path.{_≡_};
 ghost use Prim.Native.Nat.{_≤_, _<_};
 ghost use lib.ListN.{length};
@@ -6,10 +6,12 @@ ghost use Rattle.sets.specs.Workspace.{rowBytes};
 ghost use Rattle.book.specs.Reading.{checkDef};
 ghost use Rattle.stretches.specs.Buffers.{onto};
 ghost use Rattle.rewriter.specs.Replies.{readyLeaves, readyDef};
-ghost use Rattle.rewriter.specs.Opening.{Symbols, rightAll};
+ghost use Rattle.rewriter.specs.Opening.{Symbols, rightAll, opens, openDef};
+use super::Refusal;
 use super::refusals::Opened;
 use super::refusals::answer;
 use super::refusals::early;
+use super::refusals::of_tape;
 
 // The backward pass: the number of the right set at each place of the tape, from 0 at its end, by the right rows.
 pub(crate) fn backward(tape: &[u8], rows: &[u8], scratch: &mut [u8])
@@ -50,4 +52,23 @@ pub(crate) fn make_ready(
     }
     backward(tape, rows, scratch);
     answer(0, 0, opened.rules)
+}
+
+// One tape after a build: 9, 10 and 12, and where none is given the backward pass.
+pub(crate) fn tape_ready(tape: &[u8], rows: &[u8], scratch: &mut [u8]) -> Refusal
+    requires { ⌜ rowBytes ≤ length (now rows) ⌝ }
+    ensures { λ r. ⌜ opens r (now (scratch .exit)) ≡ openDef (now (rows .entry)) (now (tape .entry)) (now (scratch .entry)) ⌝ }
+{
+    let refused = of_tape(tape);
+    if refused.reply != 0 {
+        return refused;
+    }
+    if scratch.len() <= tape.len() {
+        return Refusal {
+            reply: 12,
+            place: 0,
+        };
+    }
+    backward(tape, rows, scratch);
+    refused
 }

@@ -3,7 +3,7 @@ ghost use mathlib.Core.Path.{_≡_};
 ghost use Rattle.book.specs.Reading.{checkDef};
 ghost use Rattle.rewriter.specs.Replies.{refusal, firstBad, early};
 ghost use Rattle.stretches.specs.Lists.{greatest};
-ghost use Rattle.rewriter.specs.Opening.{opened};
+ghost use Rattle.rewriter.specs.Opening.{opened, tapeRefusal};
 use super::LONGEST_TAPE;
 use super::Refusal;
 
@@ -58,6 +58,23 @@ fn first_bad(tape: &[u8]) -> usize
     i
 }
 
+// The refusals of a tape alone, 9 and 10.
+pub(crate) fn of_tape(tape: &[u8]) -> Refusal
+    ensures { λ r. ⌜ r ≡ tapeRefusal (now (tape .entry)) ⌝ }
+{
+    if LONGEST_TAPE < tape.len() {
+        return Refusal { reply: 9, place: 0 };
+    }
+    let bad = first_bad(tape);
+    if bad < tape.len() {
+        return Refusal {
+            reply: 10,
+            place: bad,
+        };
+    }
+    Refusal { reply: 0, place: 0 }
+}
+
 // The refusals of the tape and of the lengths of rows, sets and scratch, after the book's.
 pub(crate) fn early(book: &[u8], tape: &[u8], rows: usize, sets: usize, scratch: usize) -> Opened
     ensures { λ r. ⌜ r ≡ opened (early (now (book .entry)) (now (tape .entry)) rows sets scratch) (checkDef (now (book .entry)) .rules) ⌝ }
@@ -67,12 +84,9 @@ pub(crate) fn early(book: &[u8], tape: &[u8], rows: usize, sets: usize, scratch:
     if checked.reply != 0 {
         return answer(checked.reply, checked.place, rules);
     }
-    if LONGEST_TAPE < tape.len() {
-        return answer(9, 0, rules);
-    }
-    let bad = first_bad(tape);
-    if bad < tape.len() {
-        return answer(10, bad, rules);
+    let refused = of_tape(tape);
+    if refused.reply != 0 {
+        return answer(refused.reply, refused.place, rules);
     }
     if rows < sets::ROW_BYTES {
         return answer(11, 0, rules); // the bytes
