@@ -4,6 +4,7 @@ ghost use Rattle.book.specs.Reading.{checkDef};
 ghost use Rattle.sets.specs.Workspace.{buildLeaves, buildDef};
 ghost use Rattle.rewriter.specs.Replies.{rewriteLeaves, rewriteDef, accountLeaves, accountDef};
 ghost use Rattle.rewriter.specs.Show.{boundsOf};
+ghost use Rattle.heat.specs.Heats.{heatLeaves, heatDef};
 ghost use Rattle.deck.specs.Plain.{plainChecked, plainBuilt, plainRewritten, plainAccounted, plainBounds};
 
 // CHECK's answer.
@@ -129,4 +130,23 @@ pub extern "C" fn qafrendi_show(tape_length: usize, lines: &[u16], line: usize) 
         start: r.start,
         end: r.end,
     }
+}
+
+// The lanes and the answer are the operation's own types, which have C's layout. Its proof walks it step by step, for it is lent a slice of structs.
+#[no_mangle]
+pub extern "C" fn qafrendi_heat(
+    book: &[u8],
+    tapes: &[u8],
+    lanes: &mut [heat::Lane],
+    rows: &mut [u8],
+    sets: &mut [u64],
+    scratch: &mut [u8],
+    out: &mut [u8],
+    origins: &mut [u16],
+) -> heat::Heated
+    ensures { λ r. ⌜ heatLeaves r (now (lanes .exit)) (now (rows .exit)) (now (sets .exit)) (now (scratch .exit)) (now (out .exit)) (now (origins .exit))
+        ≡ heatDef (now (book .entry)) (now (tapes .entry)) (now (lanes .entry)) (now (rows .entry)) (now (sets .entry))
+        (now (scratch .entry)) (now (out .entry)) (now (origins .entry)) ⌝ }
+{
+    heat::heat(book, tapes, lanes, rows, sets, scratch, out, origins)
 }
