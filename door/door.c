@@ -23,7 +23,7 @@
     } while (0)
 #endif
 
-enum { CHECK = 1, BUILD, REWRITE, ACCOUNT, SHOW, OPERATIONS, REFUSED = 255 };
+enum { CHECK = 1, BUILD, REWRITE, ACCOUNT, SHOW, HEAT, OPERATIONS, REFUSED = 255 };
 
 /* In the order of a request's lengths, which is that of every operation's parameters. */
 enum { BOOK, TAPE, ROWS, SETS, SCRATCH, OUT, ORIGINS, LINES, BUFFERS };
@@ -40,6 +40,10 @@ static const struct {
 } buffers[BUFFERS] = {
     BUFFER(book), BUFFER(tape), BUFFER(rows), BUFFER(sets), BUFFER(scratch), BUFFER(out), BUFFER(origins), BUFFER(lines),
 };
+
+/* HEAT: more than its ten, so that 16 can be asked for. A request has as many as it has lines. */
+enum { LANES = 12 };
+static qafrendi_lane lanes[LANES];
 
 /* What the request at hand says. */
 static size_t length[BUFFERS]; /* elements, never more than the longest */
@@ -95,6 +99,12 @@ static struct answer show(void)
     return (struct answer){.place = r.start, .counts = {shown}, .part = tape + r.start, .part_length = shown};
 }
 
+static struct answer heat(void)
+{
+    qafrendi_heated r = qafrendi_heat(LENT_BOOK, LENT_TAPE, lanes, length[LINES], LENT_WORKSPACE, LENT_SCRATCH, LENT_OUTPUT);
+    return (struct answer){.reply = r.reply, .place = r.place};
+}
+
 /* Buffers, one bit each. */
 enum {
     BROUGHT = 1 << BOOK | 1 << TAPE,
@@ -113,6 +123,7 @@ static const struct {
     [REWRITE] = {rewrite, BROUGHT, PASSES | OUTPUT},
     [ACCOUNT] = {account, BROUGHT, PASSES | 1 << LINES},
     [SHOW] = {show, BROUGHT | 1 << LINES, 0},
+    [HEAT] = {heat, BROUGHT, PASSES | OUTPUT},
 };
 
 /* False where the input ends before. */
@@ -136,19 +147,45 @@ static int lengths(const uint32_t *asked)
     return 1;
 }
 
+/* The lanes of a request for HEAT, each field filled and then start and length as the request has them; false where the input ends before. */
+static int get_lanes(uint8_t fill)
+{
+    memset(lanes, fill, sizeof lanes);
+    for (size_t i = 0; i < length[LINES]; i++) {
+        uint64_t placed[2];
+        if (!get(placed, sizeof placed)) return 0;
+        lanes[i].start = placed[0];
+        lanes[i].length = placed[1];
+    }
+    return 1;
+}
+
+/* Field by field, for a lane has bytes that are none of its fields. */
+static void put_lanes(void)
+{
+    for (size_t i = 0; i < length[LINES]; i++) {
+        uint64_t numbers[] = {lanes[i].start, lanes[i].length, lanes[i].out, lanes[i].taken};
+        uint64_t place = lanes[i].place;
+        put(numbers, sizeof numbers);
+        put(&lanes[i].reply, sizeof lanes[i].reply);
+        put(&place, sizeof place);
+    }
+}
+
 /* The rest of a request for an operation; false where it is refused. No length is used before all are known to keep to their limits. */
 static int request(int operation)
 {
     uint8_t fill;
     uint32_t numbers[BUFFERS + 1];
     if (!get(&fill, sizeof fill) || !get(numbers, sizeof numbers) || !lengths(numbers)) return 0;
+    if (operation == HEAT && LANES < length[LINES]) return 0;
     line = numbers[BUFFERS];
     for (int b = 0; b < BUFFERS; b++) {
         size_t bytes = buffers[b].width * length[b];
         memset(buffers[b].elements, fill, bytes);
         if (operations[operation].brought >> b & 1 && !get(buffers[b].elements, bytes)) return 0;
     }
-    return 1;
+    return operation != HEAT || get_lanes(fill);
 }
 
 static void answer(int operation)
@@ -161,6 +198,7 @@ static void answer(int operation)
     for (int b = 0; b < BUFFERS; b++)
         if (operations[operation].written >> b & 1) put(buffers[b].elements, buffers[b].width * length[b]);
     if (0 < r.part_length) put(r.part, r.part_length);
+    if (operation == HEAT) put_lanes();
 }
 
 int main(void)

@@ -2,21 +2,8 @@
 #include <stdio.h>
 #include <stdlib.h>
 
+#include "house.h"
 #include "qafrendi.h"
-
-/* noise: after a ripple, press release; turn: press, holds, release before a push; finish: the same before two quiets */
-static const uint8_t house[] = {
-    1, 1, 10, 0, 0, 0, 0, 0, 0, 0,
-    2, 0, 1,  2, 0, 2,  2, 1, 1,  2, 1, 0,  2, 1, 2,  2, 2, 3,
-    3, 0, 1, 1, 1,  3, 2, 2, 2, 3,  3, 3, 4, 4, 4,
-    1, 1, 8, 0, 0, 0, 0, 0, 0, 0,
-    2, 0, 3,  2, 1, 1,  2, 1, 0,  2, 1, 2,  2, 2, 1,  2, 2, 2,
-    3, 7, 2, 2, 8,  3, 8, 3, 3, 8,  3, 8, 4, 4, 9,  3, 10, 5, 5, 11,
-    1, 1, 9, 0, 0, 0, 0, 0, 0, 0,
-    2, 0, 3,  2, 1, 1,  2, 1, 0,  2, 1, 2,  2, 2, 1,  2, 2, 0,  2, 2, 2,
-    3, 13, 2, 2, 14,  3, 14, 3, 3, 14,  3, 14, 4, 4, 15,  3, 16, 0, 0, 17,  3, 17, 0, 0, 18,
-    4,
-};
 
 /* ripple, press, release, quiet, quiet */
 static const uint8_t tape[] = {1, 2, 4, 0, 0};
@@ -114,5 +101,22 @@ int main(void)
     w = rewrite(tape, TAPE, needed - 1);
     say("short output", w.reply, QAFRENDI_NO_ROOM, w.place);
     print_out(w);
+
+    /* a heat in one call: the second lane leaves the common buffer, and the third's output follows that of the first */
+    static const uint8_t tapes[] = {1, 2, 4, 0, 0, 2, 4, 0, 0};
+    qafrendi_lane lanes[] = {{.start = 0, .length = 5}, {.start = 5, .length = 5}, {.start = 5, .length = 4}};
+    enum { COUNT = sizeof lanes / sizeof *lanes };
+    qafrendi_heated h = qafrendi_heat(
+        house, BOOK, tapes, sizeof tapes, lanes, COUNT, rows, QAFRENDI_ROW_BYTES, sets, QAFRENDI_SET_WORDS, scratch, QAFRENDI_SCRATCH,
+        out, OUT, origins, OUT);
+    say("heat", h.reply, QAFRENDI_ACCEPTED, h.place);
+    printf("\n");
+    size_t at = 0;
+    for (size_t i = 0; i < COUNT; at += lanes[i++].out) {
+        printf("lane %zu: reply %u at %zu, %zu taken; out", i + 1, lanes[i].reply, lanes[i].place, lanes[i].taken);
+        for (size_t k = at; k < at + lanes[i].out; k++)
+            printf(" %d from %d", out[k], origins[k]);
+        printf("\n");
+    }
     return 0;
 }

@@ -1,6 +1,6 @@
 /* Qafrendi for C: context rule books over the tapes of swimming touch pads.
  *
- * Link target/staticlib/libdeck.a (`rt staticlib deck`; x86-64 Linux). The five functions are proved: for any bytes they end, answer
+ * Link target/staticlib/libdeck.a (`rt staticlib deck`; x86-64 Linux). The six functions are proved: for any bytes they end, answer
  * what the scope document says, read and write nothing outside the buffers that they are lent, and keep nothing between calls. No
  * heap, no locks, no globals: calls on different buffers may run at once.
  *
@@ -15,6 +15,8 @@
  * book 9, 10, 11, 12, 13, 14, 15. Counts are 0 on every refusal. 1 to 12 change no buffer. 13 and 14 leave the workspace all 0 and
  * nothing else changed. 15 leaves workspace and scratch as acceptance does, and the output, the origins and the account unchanged.
  * What stood in workspace and scratch before never matters.
+ *
+ * A heat: 16 first, nothing written; then 1 to 8, 11, 13, 14 for the whole call; then lane by lane 17, 9, 10, 12, 15.
  *
  * Stack of a call, with its arguments and return address, measured on the worst inputs known (bench/run stack): check 312 bytes,
  * build 1,224, rewrite 2,808, account 2,776, show 8. No call recurses.
@@ -39,7 +41,8 @@ enum {
     QAFRENDI_SET_WORDS = 2 * QAFRENDI_MOST_SETS,
     QAFRENDI_SCRATCH = QAFRENDI_LONGEST_TAPE + 1,
     QAFRENDI_LONGEST_OUT = QAFRENDI_LONGEST_WORD * QAFRENDI_LONGEST_TAPE,
-    QAFRENDI_LINE_WORDS = 6
+    QAFRENDI_LINE_WORDS = 6,
+    QAFRENDI_MOST_LANES = 10
 };
 
 /* Replies                            given when                                                           place */
@@ -59,7 +62,9 @@ enum {
     QAFRENDI_SHORT_SCRATCH = 12,   /* scratch shorter than tape_length + 1                                 0 */
     QAFRENDI_MANY_LEFT_SETS = 13,  /* more than 256 left sets                                              0 */
     QAFRENDI_MANY_RIGHT_SETS = 14, /* more than 256 right sets                                             0 */
-    QAFRENDI_NO_ROOM = 15          /* no room for the output or the account                                symbols or words needed */
+    QAFRENDI_NO_ROOM = 15,         /* no room for the output or the account                                symbols or words needed */
+    QAFRENDI_MANY_LANES = 16,      /* more than ten lanes                                                  0 */
+    QAFRENDI_OUTSIDE = 17          /* a lane's stretch leaves the common buffer                            0 */
 };
 
 /* The words of a line of an account, in their order. */
@@ -103,6 +108,18 @@ typedef struct {
 typedef struct {
     size_t start, end;
 } qafrendi_stretch;
+
+/* One lane of a heat: start and length of its tape in the common buffer are the caller's, and are not changed; the rest it gets back. */
+typedef struct {
+    size_t start, length, out, taken;
+    uint8_t reply;
+    size_t place;
+} qafrendi_lane;
+
+typedef struct {
+    uint8_t reply;
+    size_t place;
+} qafrendi_heated;
 
 /* CHECK: whether the bytes are a book, and how many rules, states and arcs it has. Replies 0 to 8.
  * Needs nothing, writes nothing. */
@@ -150,6 +167,26 @@ qafrendi_accounted qafrendi_account(
  * line is not wholly inside the account, or its start is not below its end, or its end is past the tape, start and end are 0.
  * Always start <= end <= tape_length. Needs nothing, writes nothing. */
 qafrendi_stretch qafrendi_show(size_t tape_length, const uint16_t *lines, size_t lines_length, size_t line);
+
+/* HEAT: all lanes of a heat: one book, and up to QAFRENDI_MOST_LANES tapes in one common buffer. The book is built once, and each lane gets
+ * what qafrendi_rewrite gives for its tape alone, one after another, each with the room still left.
+ * Replies 0 to 8, 11, 13, 14, 16; but for 0 no lane is touched, and the workspace is as qafrendi_build leaves it. With 0, also for no
+ * lane at all, each lane has a reply of its own: 0, 9, 10, 12, 15, 17. Its place is a position of its own tape, or with 15 the symbols
+ * that it needs. Lanes may overlap, and start and length may be any numbers.
+ * Needs the workspace as BUILD does, scratch of the longest tape's length + 1, and room for the outputs together.
+ * Writes the workspace as BUILD does, even if no lane is accepted; each lane's out, taken, reply and place; scratch as the lanes one
+ * after another leave it (17, 9, 10 and 12 leave it as it was); and for each accepted lane `out` elements of out and of origins, right
+ * after those of the lane before: origins are positions of its own tape. A refused lane uses no room, and its out and taken are 0.
+ * Never touches the book, the tapes, nor the elements past those. */
+qafrendi_heated qafrendi_heat(
+    const uint8_t *book, size_t book_length,
+    const uint8_t *tapes, size_t tapes_length,
+    qafrendi_lane *lanes, size_t lanes_length,
+    uint8_t *rows, size_t rows_length,
+    uint64_t *sets, size_t sets_length,
+    uint8_t *scratch, size_t scratch_length,
+    uint8_t *out, size_t out_length,
+    uint16_t *origins, size_t origins_length);
 
 #ifdef __cplusplus
 }

@@ -1,0 +1,68 @@
+/* A heat from the shell: the tapes on standard input, a line a lane in hex digits, through the house book in one call. It prints of each
+ * lane what the program pads prints of a tape, but for the account: W and O, or X with the lane's reply and place. A call that is
+ * refused as a whole, as one of eleven lanes is, prints one X. */
+#include <stdio.h>
+
+#include "house.h"
+#include "qafrendi.h"
+
+/* One lane more than a heat may have is kept, for the call to refuse; and one symbol more than a tape may have, for the lane's refusal. */
+enum { LANES = QAFRENDI_MOST_LANES + 1, LONGEST = QAFRENDI_LONGEST_TAPE + 1, ROOM = QAFRENDI_MOST_LANES * QAFRENDI_LONGEST_TAPE };
+
+static uint8_t tapes[LANES * LONGEST];
+static qafrendi_lane lanes[LANES];
+static uint8_t rows[QAFRENDI_ROW_BYTES];
+static uint64_t sets[QAFRENDI_SET_WORDS];
+static uint8_t scratch[QAFRENDI_SCRATCH];
+static uint8_t out[ROOM]; /* no word of the house book is longer than its focus */
+static uint16_t origins[ROOM];
+
+/* The symbol of a character; one that is none for any other than a hex digit. */
+static uint8_t symbol(int character)
+{
+    if ('0' <= character && character <= '9') return (uint8_t)(character - '0');
+    if ('a' <= character && character <= 'f') return (uint8_t)(character - 'a' + 10);
+    return QAFRENDI_SYMBOLS;
+}
+
+/* The lanes on standard input, one after the other in the common buffer; how many there are. The rest of a line that is too long is left out. */
+static size_t read_lanes(void)
+{
+    size_t count = 0, used = 0;
+    int character;
+    while (count < LANES && (character = getchar()) != EOF) {
+        qafrendi_lane *lane = &lanes[count++];
+        lane->start = used;
+        for (; character != '\n' && character != EOF; character = getchar())
+            if (used - lane->start < LONGEST) tapes[used++] = symbol(character);
+        lane->length = used - lane->start;
+    }
+    return count;
+}
+
+int main(void)
+{
+    size_t count = read_lanes();
+    qafrendi_heated h = qafrendi_heat(
+        house, sizeof house, tapes, sizeof tapes, lanes, count, rows, QAFRENDI_ROW_BYTES, sets, QAFRENDI_SET_WORDS, scratch, QAFRENDI_SCRATCH,
+        out, ROOM, origins, ROOM);
+    if (h.reply != QAFRENDI_ACCEPTED) {
+        printf("X %u %zu\n", h.reply, h.place);
+        return 0;
+    }
+    size_t at = 0;
+    for (size_t i = 0; i < count; at += lanes[i++].out) {
+        if (lanes[i].reply != QAFRENDI_ACCEPTED) {
+            printf("X %u %zu\n", lanes[i].reply, lanes[i].place);
+            continue;
+        }
+        printf("W %zu %zu %s", lanes[i].out, lanes[i].taken, lanes[i].out ? "" : "-");
+        for (size_t k = at; k < at + lanes[i].out; k++)
+            printf("%x", out[k]);
+        printf("\nO%s", lanes[i].out ? "" : " -");
+        for (size_t k = at; k < at + lanes[i].out; k++)
+            printf(" %d", origins[k]);
+        printf("\n");
+    }
+    return 0;
+}
