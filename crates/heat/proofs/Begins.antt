@@ -16,7 +16,8 @@ use Rattle.rewriter.specs.Opening.{AsBuilt}
 use Rattle.rewriter.proofs.Standing.{buildable, as-built}
 use Rattle.rewriter.proofs.Whole.{rules-counted}
 use Rattle.heat.specs.declared.Begun.{Begun}
-use Rattle.heat.specs.Heats.{mostLanes, heated, AfterBegin, begins, refused, beginDef}
+use Rattle.heat.specs.Heats.{mostLanes, heated}
+use Rattle.heat.specs.Begins.{AfterBegin, begins, refused, beginDef}
 
 module _ (book : List ℕ) (n : ℕ) (R S : List ℕ) where
   pub begin-many : mostLanes < n → (r : Begun) → r ≡ refused 16 0 → begins r R S ≡ beginDef book n R S

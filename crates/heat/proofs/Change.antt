@@ -21,7 +21,7 @@ use Rattle.rewriter.specs.Opening.{AsBuilt}
 use Rattle.rewriter.proofs.Standing.{hasRoom, ready-not-15, rewrite-answer, rewrite-refusal, rewrite-front, rewrite-front-origins}
 use Rattle.heat.specs.declared.Lane.{Lane}
 use Rattle.heat.specs.Lanes.{tapeOf, answered, Leaving, AfterLane, outside, inside, laneDef, AfterLanes, lanesLeave, inTurn}
-use Rattle.heat.specs.Apart.{Elsewhere, Apart, AllApart, none, both, around, RoomFor, class, writtenOf, writtenOrigins}
+use Rattle.heat.specs.Apart.{Elsewhere, Apart, AllApart, none, both, RoomFor, class, writtenOf, writtenOrigins}
 use Rattle.heat.proofs.Room.{Roomy, alone}
 
 -- ---- a lane apart from the change has the same tape
@@ -67,19 +67,6 @@ pub turn-append : (f : Lane → Leaving → AfterLane) (ls ks : List Lane) (s : 
 unfolding inTurn
 turn-append f [] ks s = refl
 turn-append f (l ∷ ls) ks s = ap (λ (r : AfterLanes). lanesLeave (f l s .lane ∷ r .lanes) (r .left)) (turn-append f ls ks (f l s .left))
-
--- the heat with the changed buffer is the old one, but for the lane m itself and what it leaves to the later ones
-pub one-change : (t t′ : List ℕ) (m : Lane) → Elsewhere t t′ m → (book R S : List ℕ) (ls ks : List Lane) (s : Leaving) → AllApart m ls → AllApart m ks
-    → inTurn (laneDef book t′ R S) (ls ++ (m ∷ ks)) s ≡ around (laneDef book t R S) (laneDef book t′ R S) ls m ks s
-unfolding inTurn
-one-change t t′ m e book R S ls ks s hl hk =
-    let f = laneDef book t R S in
-    let g = laneDef book t′ R S in
-    turn-append g ls (m ∷ ks) s
-    ∙ ap (λ (a : AfterLanes). lanesLeave (a .lanes ++ inTurn g (m ∷ ks) (a .left) .lanes) (inTurn g (m ∷ ks) (a .left) .left))
-    (sym (same-lanes t t′ m e book R S ls s hl))
-    ∙ ap (λ (c : AfterLanes). lanesLeave (inTurn f ls s .lanes ++ (g m (inTurn f ls s .left) .lane ∷ c .lanes)) (c .left))
-    (sym (same-lanes t t′ m e book R S ks (g m (inTurn f ls s .left) .left) hk))
 
 -- a reply is a refusal of the lane itself, or of the class 0
 other-or-none : (k : ℕ) → ((k ≡ 0 → ⊥) × (k ≡ 15 → ⊥)) ⊎ (class k ≡ 0)

@@ -14,10 +14,10 @@ use Rattle.stretches.proofs.Counts.{symbols-length, origins-length}
 use Rattle.rewriter.specs.Opening.{AsBuilt}
 use Rattle.rewriter.proofs.Standing.{as-built}
 use Rattle.heat.specs.declared.Lane.{Lane}
-use Rattle.heat.specs.Lanes.{tapeOf, noLane, Leaving, leaving, AfterLane, AfterLanes, inTurn}
+use Rattle.heat.specs.Lanes.{tapeOf, Leaving, leaving, AfterLane, AfterLanes, inTurn}
 use Rattle.heat.specs.Heats.{mostLanes, heated, AfterHeat, heatLeaves, afterLanes, heatDef}
 use Rattle.heat.specs.Calls.{byCalls}
-use Rattle.heat.specs.Apart.{Elsewhere, Apart, AllApart, RoomFor, class, writtenOf, writtenOrigins, used}
+use Rattle.heat.specs.Apart.{noLane, Elsewhere, Apart, AllApart, RoomFor, class, writtenOf, writtenOrigins, used}
 use Rattle.heat.proofs.OneLane.{laneOf, after}
 use Rattle.heat.proofs.OneLane as One
 use Rattle.heat.proofs.Change as Change

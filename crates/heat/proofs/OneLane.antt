@@ -10,9 +10,9 @@ use borrow.Author.Tests.{le-ltb}
 use Rattle.sets.specs.Workspace.{buildDef}
 use Rattle.rewriter.proofs.Standing.{build-place}
 use Rattle.heat.specs.declared.Lane.{Lane}
-use Rattle.heat.specs.Lanes.{noLane, Leaving, leaving, AfterLane, laneDef, AfterLanes, lanesLeave, inTurn}
+use Rattle.heat.specs.Lanes.{Leaving, leaving, AfterLane, laneDef, AfterLanes, lanesLeave, inTurn}
 use Rattle.heat.specs.Heats.{mostLanes, heated, AfterHeat, afterLanes, heatDef}
-use Rattle.heat.specs.Apart.{used}
+use Rattle.heat.specs.Apart.{noLane, used}
 use Rattle.heat.proofs.Turns.{getD-mid}
 use Rattle.heat.proofs.Places.{LaneKeeps, lane-keeps, LanesKeep, lanes-keep}
 use Rattle.heat.proofs.Change.{turn-append}

@@ -2,10 +2,8 @@
 -- those of the definition. Assumes nothing.
 use Prim.Native.Nat.{ℕ, _+_, _-_, _≤_, _<_}
 use mathlib.Core.Path.{_≡_, ap, _∙_}
-use mathlib.Core.Bool.{Bool, true, false, cond}
 use mathlib.Core.List.{List, _++_, append-nil}
 use native.Mathlib.Omega.{arith}
-use lib.Dec.{ltb}
 use lib.ListN.{length, take, drop, length-drop, length-take, length-append, drop-of-length-le}
 use lib.Seq.{take-all}
 use borrow.Rule.Slice.PartMut.{putMid}
@@ -14,7 +12,7 @@ use Rattle.rewriter.specs.Replies.{AfterRewrite, rewriteLeaves, rewriteDef}
 use Rattle.rewriter.proofs.Callers.{rewrite-out, rewrite-origins, rewrite-fits-out, rewrite-fits-origins}
 use Rattle.output.specs.declared.Rewritten.{Rewritten}
 use Rattle.heat.specs.declared.Lane.{Lane}
-use Rattle.heat.specs.Lanes.{tapeOf, answered, Leaving, leaving, laneLeaves, outside, inside, laneDef}
+use Rattle.heat.specs.Lanes.{tapeOf, answered, Leaving, leaving, laneLeaves, inside, laneDef}
 
 -- the room that is used is within both outputs
 pub record Roomy (s : Leaving) : Type 0 where

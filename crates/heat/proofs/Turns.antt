@@ -8,11 +8,13 @@ use native.Mathlib.Decide.{ℕ-discrete}
 use lib.Dec.{ltb}
 use lib.ListN.{length, getD, set, length-set, length-append}
 use borrow.Author.Tests.{ne-eqb}
-use Rattle.sets.specs.Workspace.{AfterBuild, buildDef}
+use Rattle.sets.specs.Workspace.{buildDef}
 use Rattle.rewriter.proofs.Standing.{build-place}
 use Rattle.heat.specs.declared.Lane.{Lane}
-use Rattle.heat.specs.Lanes.{noLane, Leaving, leaving, AfterLane, AfterLanes, lanesLeave, laneDef, inTurn}
-use Rattle.heat.specs.Heats.{mostLanes, heated, AfterHeat, heatLeaves, afterBuild, heatDef, AfterBegin, begins, refused, beginsBuilt, beginDef}
+use Rattle.heat.specs.Lanes.{Leaving, leaving, AfterLane, AfterLanes, lanesLeave, laneDef, inTurn}
+use Rattle.heat.specs.Apart.{noLane}
+use Rattle.heat.specs.Heats.{mostLanes, heated, AfterHeat, heatLeaves, afterBuild, heatDef}
+use Rattle.heat.specs.Begins.{AfterBegin, begins, refused, beginsBuilt, beginDef}
 use Rattle.heat.proofs.Room.{Roomy}
 
 -- k lanes from the i-th on, each written where it was read

@@ -1,15 +1,20 @@
--- Document 02, No. 2: "Where no two lanes overlap, a change to one tape changes other lanes only through the place and room of later ones."
+-- What the theorems speak of besides: a record of a list, the room that lanes have used; and of document 02, No. 2: "Where no two lanes overlap, a
+-- change to one tape changes other lanes only through the place and room of later ones."
 use Prim.Native.Nat.{ℕ, _+_, _≤_}
 use mathlib.Core.Path.{_≡_}
 use mathlib.Core.Logic.{_⊎_}
 use mathlib.Core.Bool.{cond}
+use mathlib.Core.List.{List, [], _∷_}
 use lib.Dec.{eqb}
-use mathlib.Core.List.{List, [], _∷_, _++_}
 use lib.ListN.{length, take, drop}
 use Rattle.book.specs.Language.{rulesIn}
 use Rattle.stretches.specs.Output.{rewriting, symbolsOf, originsOf}
 use Rattle.heat.specs.declared.Lane.{Lane}
-use Rattle.heat.specs.Lanes.{tapeOf, Leaving, AfterLane, AfterLanes, lanesLeave, inTurn}
+use Rattle.heat.specs.Lanes.{tapeOf, Leaving}
+
+-- what is read where a list has no record
+pub noLane : Lane
+noLane = record { start = 0; length = 0; out = 0; taken = 0; reply = 0; place = 0 }
 
 -- two common buffers that differ at most in the stretch of the lane m
 pub record Elsewhere (t t′ : List ℕ) (m : Lane) : Type 0 where
@@ -25,14 +30,6 @@ Apart m l = (l .start + l .length ≤ m .start) ⊎ (m .start + m .length ≤ l 
 pub data AllApart (m : Lane) : List Lane → Type 0 where
   none : AllApart m []
   both : {l : Lane} {ls : List Lane} → Apart m l → AllApart m ls → AllApart m (l ∷ ls)
-
--- the lanes ls, then the lane m by g, then the lanes ks, all others by f
-abbrev pub around : (Lane → Leaving → AfterLane) → (Lane → Leaving → AfterLane) → List Lane → Lane → List Lane → Leaving → AfterLanes
-around f g ls m ks s =
-    let a = inTurn f ls s in
-    let b = g m (a .left) in
-    let c = inTurn f ks (b .left) in
-    lanesLeave (a .lanes ++ (b .lane ∷ c .lanes)) (c .left)
 
 -- room for n symbols in what is left of both outputs
 pub record RoomFor (n : ℕ) (s : Leaving) : Type 0 where

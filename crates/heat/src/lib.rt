@@ -6,7 +6,8 @@ ghost use lib.ListN.{length};
 ghost use Rattle.book.specs.Reading.{bookOf};
 ghost use Rattle.rewriter.specs.Opening.{AsBuilt};
 ghost use Rattle.heat.specs.Lanes.{answered, leaving, laneLeaves, laneDef};
-ghost use Rattle.heat.specs.Heats.{refused, begins, beginDef, heatLeaves, heatDef};
+ghost use Rattle.heat.specs.Heats.{heatLeaves, heatDef};
+ghost use Rattle.heat.specs.Begins.{begins, refused, beginDef};
 
 // "up to ten tapes"
 pub const MOST_LANES: usize = 10;

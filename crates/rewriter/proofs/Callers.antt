@@ -1,7 +1,7 @@
 -- What whoever calls REWRITE or ACCOUNT may rely on, for any book, tape and buffers: each buffer keeps its length, and what the answer counts
 -- is within the room that was lent. Assumes nothing.
 use Prim.Native.Nat.{ℕ, _*_, _≤_, zero-le}
-use mathlib.Core.Path.{_≡_, refl, ap, _∙_}
+use mathlib.Core.Path.{_≡_, refl}
 use mathlib.Core.List.{List}
 use mathlib.Core.Bool.{Bool}
 use native.Mathlib.Omega.{arith}

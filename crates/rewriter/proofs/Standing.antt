@@ -1,6 +1,6 @@
 -- Rows and sets as BUILD left them: one build is as good as ten. BUILD over its own workspace changes nothing; the tests of a tape and its backward
 -- pass then leave what `readyDef` says; and what REWRITE answers and writes does not look at what stood in the workspace. Assumes nothing.
-use Prim.Native.Nat.{ℕ, suc, _+_, _≤_, _<_}
+use Prim.Native.Nat.{ℕ, _+_, _≤_, _<_}
 use mathlib.Core.Path.{_≡_, refl, sym, ap, ap₂, _∙_}
 use mathlib.Core.List.{List, [], _++_}
 use mathlib.Core.Bool.{Bool, true, false, cond, _&&_}
@@ -9,30 +9,30 @@ use native.Mathlib.Decide.{ℕ-discrete}
 use lib.Dec.{leb, ltb, eqb}
 use lib.ListN.{length, take, drop}
 use lib.Seq.{drop-drop, drop-at}
-use borrow.Author.Tests.{eq-eqb, ne-eqb, lt-ltb, le-ltb, ltb-false, le-leb, lt-leb, leb-false}
+use borrow.Author.Tests.{eq-eqb, ne-eqb, le-ltb, le-leb, lt-leb}
 use Rattle.book.specs.Reading.{bookOf}
 use Rattle.book.specs.Language.{Rules, rulesIn}
 use Rattle.book.specs.Format.{pad}
+use Rattle.book.proofs.Pad.{length-pad}
 use Rattle.sets.specs.Numbering.{mostSets, pairs, Table}
 use Rattle.sets.specs.Workspace.{rowBytes, setWords, leftTable, rightTable, AfterBuild, cleared, filled, numbered, buildDef}
 use Rattle.sets.specs.declared.Built.{Built}
 use Rattle.sets.specs.Tables.{leftCount, rightCount}
-use Rattle.book.proofs.Pad.{length-pad}
 use Rattle.sets.proofs.Tables.{left-width, right-width, build-rows, build-sets}
 use Rattle.sets.proofs.WaysOut.{Buildable, Way, refused, short, many-left, many-right, built, way, way-on, way-accepted, numbered-both, reply}
 use Rattle.stretches.specs.Buffers.{longestTape, onto}
 use Rattle.stretches.specs.Candidates.{taken}
 use Rattle.stretches.specs.Output.{rewriting, symbolsOf, originsOf}
+use Rattle.stretches.proofs.Lists.{by-test}
 use Rattle.output.specs.Tape.{AfterTape, tapeLeaves, tapeDef}
 use Rattle.output.specs.declared.Rewritten.{Rewritten}
+use Rattle.output.proofs.Tapes.{tape-front, tape-front-origins}
 use Rattle.rewriter.specs.declared.Refusal.{Refusal}
 use Rattle.rewriter.specs.Replies.{firstBad, refusal, early, rightNumbers, AfterReady, readyLeaves, readyDef, AfterRewrite, rewriteLeaves, rewriteFrom}
 use Rattle.rewriter.specs.Replies.{rewriteDef}
 use Rattle.rewriter.specs.Opening.{Symbols, rightAll, AsBuilt, tapeRefusal, tapeTests, AfterOpening, opens, openDef}
 use Rattle.rewriter.proofs.Early.{all-good, tape-good, tape-passed, tape-not-15, admitted}
-use Rattle.rewriter.proofs.MakeReady.{right-numbers, refused-is, ready-is, ReadyWay, stopped, unbuilt, made, ready-way}
-use Rattle.stretches.proofs.Lists.{by-test}
-use Rattle.output.proofs.Tapes.{tape-front, tape-front-origins}
+use Rattle.rewriter.proofs.MakeReady.{right-numbers, refused-is, ready-is}
 
 -- ---- an accepting BUILD has a book that CHECK accepts, and room
 pub buildable : (book R S : List ℕ) → reply (buildDef book R S) ≡ 0 → Buildable book R S
@@ -296,20 +296,6 @@ rewrite-anywhere book tape R S R′ S′ X out origins o o′ =
     from-handed (readyDef book tape R S X) t out origins
     ∙ ap (λ (p : AfterOpening). seen (rewriteFrom (readyLeaves (p .answer) [] [] (p .scratch)) t out origins)) same
     ∙ sym (from-handed (readyDef book tape R′ S′ X) t out origins)
-
--- and over one that is as BUILD left it, it leaves that as it is
-module _ (book rows sets : List ℕ) (a : AsBuilt book rows sets) (tape X : List ℕ) where
-  ready-kept : (x : AfterReady) → ReadyWay book tape rows sets X x → (x .rows ≡ rows) × (x .sets ≡ sets)
-  ready-kept x (stopped h e) = (ap (λ (y : AfterReady). y .rows) e, ap (λ (y : AfterReady). y .sets) e)
-  ready-kept x (unbuilt h e) = absurd (h (a .accepts))
-  ready-kept x (made p z e) = (ap (λ (y : AfterReady). y .rows) e ∙ a .same-rows, ap (λ (y : AfterReady). y .sets) e ∙ a .same-sets)
-
-  pub rewrite-keeps : (out origins : List ℕ) → (rewriteDef book tape rows sets X out origins .rows ≡ rows)
-      × (rewriteDef book tape rows sets X out origins .sets ≡ sets)
-  unfolding rewriteDef
-  rewrite-keeps out origins =
-      let k = ready-kept (readyDef book tape rows sets X) (ready-way book tape rows sets X) in
-      by-test (λ (x : AfterRewrite). (x .rows ≡ rows) × (x .sets ≡ sets)) (eqb (readyDef book tape rows sets X .answer .reply) 0) _ _ (λ e. k) (λ e. k)
 
 -- ---- reply, place and counts look at the lengths of scratch, output and origins alone
 ready-answer : (book tape R S X X′ : List ℕ) → length X ≡ length X′ → readyDef book tape R S X .answer ≡ readyDef book tape R S X′ .answer

@@ -46,7 +46,6 @@ use Rattle.heat.specs.declared.Lane.{Lane}
 use Rattle.heat.specs.declared.Heated.{Heated}
 use Rattle.heat.specs.Heats.{AfterHeat, heatDef}
 use Rattle.heat.proofs.Lane as Ln
-use Rattle.heat.proofs.Lane.Laws as Ln′
 use Rattle.heat.proofs.Heated as Hd
 use Rattle.heat.proofs.Heated.Laws as Hd′
 use Rattle.heat.proofs.heat as heat

@@ -1,9 +1,9 @@
 -- `heat::begin` meets its contract: each way out is a row of `beginDef`. Assumes nothing.
-use Rattle.heat.proofs.Begins.{begin-many, begin-refused, begin-done}
-use Rattle.book.specs.declared.Checked.{Checked}
-use native.Mathlib.Omega.{arith}
 use mathlib.Core.Path.{ap}
+use native.Mathlib.Omega.{arith}
 use borrow.Author.Needs.{needs}
+use Rattle.book.specs.declared.Checked.{Checked}
+use Rattle.heat.proofs.Begins.{begin-many, begin-refused, begin-done}
 use Rattle.heat.proofs.begin.Statement.{statement}
 use Rattle.heat.proofs.begin.Tie as tie
 

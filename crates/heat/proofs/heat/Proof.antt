@@ -55,8 +55,9 @@ use borrow.Author.Tests.{lt-ltb, le-ltb, ltb-true, ltb-false}
 use Rattle.heat.specs.declared.Lane.{Lane}
 use Rattle.heat.specs.declared.Ran.{Ran}
 use Rattle.heat.specs.declared.Begun.{Begun}
-use Rattle.heat.specs.Lanes.{noLane, Leaving, laneDef}
-use Rattle.heat.specs.Heats.{beginDef}
+use Rattle.heat.specs.Lanes.{Leaving, laneDef}
+use Rattle.heat.specs.Apart.{noLane}
+use Rattle.heat.specs.Begins.{beginDef}
 use Rattle.heat.proofs.Places.{lane-roomy}
 use Rattle.heat.proofs.Begins.{Started, started}
 use Rattle.heat.proofs.Turns.{Here, here-start, here-next, next-below, here-end}

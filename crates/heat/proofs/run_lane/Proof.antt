@@ -1,12 +1,12 @@
 -- `heat::run_lane` meets its contract: 17, or the lane's REWRITE into what is left of the outputs. Assumes nothing.
+use Prim.Native.Nat.{_+_, _≤_}
+use mathlib.Core.Path.{refl, sym, _∙_}
+use native.Mathlib.Omega.{arith}
+use lib.ListN.{length}
+use borrow.Author.Tests.{ltb-true, ltb-false}
+use borrow.Author.Needs.{needs}
 use Rattle.heat.proofs.Room.{lane-outside, lane-inside, used-fits}
 use Rattle.heat.specs.Lanes.{leaving}
-use borrow.Author.Tests.{ltb-true, ltb-false}
-use native.Mathlib.Omega.{arith}
-use mathlib.Core.Path.{refl, sym, _∙_}
-use lib.ListN.{length}
-use Prim.Native.Nat.{_+_, _≤_}
-use borrow.Author.Needs.{needs}
 use Rattle.heat.proofs.run_lane.Statement.{statement}
 use Rattle.heat.proofs.run_lane.Tie as tie
 

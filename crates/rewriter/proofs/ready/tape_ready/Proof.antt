@@ -1,7 +1,7 @@
 -- `rewriter::ready::tape_ready` meets its contract: its three ways out are those of `openDef`. Assumes nothing.
-use Rattle.rewriter.proofs.Standing.{open-refused, open-short, open-passed, open-done}
 use native.Mathlib.Omega.{arith}
 use borrow.Author.Needs.{needs}
+use Rattle.rewriter.proofs.Standing.{open-refused, open-short, open-passed, open-done}
 use Rattle.rewriter.proofs.ready.tape_ready.Statement.{statement}
 use Rattle.rewriter.proofs.ready.tape_ready.Tie as tie
 

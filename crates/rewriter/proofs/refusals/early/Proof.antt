@@ -1,19 +1,19 @@
 -- `rewriter::refusals::early` meets its contract: each way out has the tests before it in hand. Assumes nothing.
 use Prim.Native.Nat.{ℕ}
-use Rattle.rewriter.specs.Replies.{refusal}
 use Prim.Native.Nat.{ℕ, _≤_}
-use lib.ListN.{length}
-use Rattle.stretches.specs.Buffers.{longestTape}
 use mathlib.Core.Path.{_≡_, sym, ap, ap₂, _∙_}
 use mathlib.Core.List.{List}
 use native.Mathlib.Omega.{arith}
+use lib.ListN.{length}
+use borrow.Author.Needs.{needs}
 use Rattle.book.specs.Reading.{checkDef}
 use Rattle.book.specs.declared.Checked.{Checked}
+use Rattle.stretches.specs.Buffers.{longestTape}
+use Rattle.rewriter.specs.Replies.{refusal}
 use Rattle.rewriter.specs.Replies.{firstBad, refusal}
 use Rattle.rewriter.specs.Opening.{opened, tapeRefusal}
 use Rattle.rewriter.specs.declared.Refusal.{Refusal}
 use Rattle.rewriter.proofs.Early.{tape-passed, early-book, early-tape, early-rows, early-sets, early-scratch, early-none}
-use borrow.Author.Needs.{needs}
 use Rattle.rewriter.proofs.refusals.early.Statement.{statement}
 use Rattle.rewriter.proofs.refusals.early.Tie as tie
 

@@ -1,9 +1,9 @@
 -- `rewriter::refusals::of_tape` meets its contract: each return is a row of `tapeRefusal`. Assumes nothing.
+use mathlib.Core.Path.{ap, _∙_}
+use native.Mathlib.Omega.{arith}
+use borrow.Author.Needs.{needs}
 use Rattle.rewriter.proofs.Early.{tape-long, tape-bad, tape-good}
 use Rattle.rewriter.specs.Replies.{refusal}
-use native.Mathlib.Omega.{arith}
-use mathlib.Core.Path.{ap, _∙_}
-use borrow.Author.Needs.{needs}
 use Rattle.rewriter.proofs.refusals.of_tape.Statement.{statement}
 use Rattle.rewriter.proofs.refusals.of_tape.Tie as tie
 
