@@ -10,10 +10,11 @@ use lib.Dec.{ltb, eqb}
 use lib.ListN.{length, drop}
 use borrow.Author.Tests.{ne-eqb, lt-ltb, le-ltb}
 use Rattle.sets.specs.Workspace.{AfterBuild, buildDef}
-use Rattle.sets.proofs.WaysOut.{Buildable}
+use Rattle.sets.specs.Tables.{Buildable}
+use Rattle.sets.proofs.Tables.{buildable, build-place, buildable-again}
 use Rattle.rewriter.specs.Replies.{AfterRewrite, rewriteDef}
 use Rattle.rewriter.proofs.Callers.{rewrite-rows, rewrite-sets}
-use Rattle.rewriter.proofs.Standing.{buildable, build-place, buildable-again, Seen, rewrite-anywhere}
+use Rattle.rewriter.proofs.Standing.{Seen, rewrite-anywhere}
 use Rattle.heat.specs.declared.Lane.{Lane}
 use Rattle.heat.specs.Lanes.{tapeOf, Leaving, leaving, AfterLane, outside, inside, laneDef, lanesLeave, inTurn}
 use Rattle.heat.specs.Heats.{mostLanes, heated, heatLeaves, afterLanes, heatDef}

@@ -12,8 +12,8 @@ use borrow.Author.Tests.{eq-eqb, ne-eqb, lt-ltb, le-ltb}
 use Rattle.book.specs.Reading.{checkDef, bookOf}
 use Rattle.sets.specs.Workspace.{AfterBuild, buildLeaves, buildDef}
 use Rattle.sets.specs.declared.Built.{Built}
-use Rattle.rewriter.specs.Opening.{AsBuilt}
-use Rattle.rewriter.proofs.Standing.{buildable, as-built}
+use Rattle.sets.specs.Tables.{AsBuilt}
+use Rattle.sets.proofs.Tables.{buildable, as-built}
 use Rattle.rewriter.proofs.Whole.{rules-counted}
 use Rattle.heat.specs.declared.Begun.{Begun}
 use Rattle.heat.specs.Heats.{mostLanes, heated}

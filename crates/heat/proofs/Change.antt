@@ -17,7 +17,7 @@ use Rattle.rewriter.specs.Replies.{AfterReady, readyDef, AfterRewrite, rewriteD
 use Rattle.output.specs.Tape.{AfterTape, tapeDef}
 use Rattle.stretches.proofs.Lists.{by-test}
 use Rattle.book.proofs.Laws.{and-left, and-right}
-use Rattle.rewriter.specs.Opening.{AsBuilt}
+use Rattle.sets.specs.Tables.{AsBuilt}
 use Rattle.rewriter.proofs.Standing.{hasRoom, ready-not-15, rewrite-answer, rewrite-refusal, rewrite-front, rewrite-front-origins}
 use Rattle.heat.specs.declared.Lane.{Lane}
 use Rattle.heat.specs.Lanes.{tapeOf, answered, Leaving, AfterLane, outside, inside, laneDef, AfterLanes, lanesLeave, inTurn}

@@ -11,8 +11,8 @@ use Rattle.book.specs.Language.{rulesIn}
 use Rattle.sets.specs.Workspace.{buildDef}
 use Rattle.stretches.specs.Output.{rewriting}
 use Rattle.stretches.proofs.Counts.{symbols-length, origins-length}
-use Rattle.rewriter.specs.Opening.{AsBuilt}
-use Rattle.rewriter.proofs.Standing.{as-built}
+use Rattle.sets.specs.Tables.{AsBuilt}
+use Rattle.sets.proofs.Tables.{as-built}
 use Rattle.heat.specs.declared.Lane.{Lane}
 use Rattle.heat.specs.Lanes.{tapeOf, Leaving, leaving, AfterLane, AfterLanes, inTurn}
 use Rattle.heat.specs.Heats.{mostLanes, heated, AfterHeat, heatLeaves, afterLanes, heatDef}

@@ -8,7 +8,7 @@ use lib.ListN.{length, take, drop, getD, length-append, length-take}
 use lib.Seq.{take-at, drop-at, take-add, length-take-le}
 use borrow.Author.Tests.{le-ltb}
 use Rattle.sets.specs.Workspace.{buildDef}
-use Rattle.rewriter.proofs.Standing.{build-place}
+use Rattle.sets.proofs.Tables.{build-place}
 use Rattle.heat.specs.declared.Lane.{Lane}
 use Rattle.heat.specs.Lanes.{Leaving, leaving, AfterLane, laneDef, AfterLanes, lanesLeave, inTurn}
 use Rattle.heat.specs.Heats.{mostLanes, heated, AfterHeat, afterLanes, heatDef}

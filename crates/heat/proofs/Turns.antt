@@ -9,7 +9,7 @@ use lib.Dec.{ltb}
 use lib.ListN.{length, getD, set, length-set, length-append}
 use borrow.Author.Tests.{ne-eqb}
 use Rattle.sets.specs.Workspace.{buildDef}
-use Rattle.rewriter.proofs.Standing.{build-place}
+use Rattle.sets.proofs.Tables.{build-place}
 use Rattle.heat.specs.declared.Lane.{Lane}
 use Rattle.heat.specs.Lanes.{Leaving, leaving, AfterLane, AfterLanes, lanesLeave, laneDef, inTurn}
 use Rattle.heat.specs.Apart.{noLane}

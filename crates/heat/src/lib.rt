@@ -4,7 +4,7 @@ ghost use Prim.Native.Nat.{_+_, _≤_};
 ghost use lib.Dec.{ltb};
 ghost use lib.ListN.{length};
 ghost use Rattle.book.specs.Reading.{bookOf};
-ghost use Rattle.rewriter.specs.Opening.{AsBuilt};
+ghost use Rattle.sets.specs.Tables.{AsBuilt};
 ghost use Rattle.heat.specs.Lanes.{answered, leaving, laneLeaves, laneDef};
 ghost use Rattle.heat.specs.Heats.{heatLeaves, heatDef};
 ghost use Rattle.heat.specs.Begins.{begins, refused, beginDef};

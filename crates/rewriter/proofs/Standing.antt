@@ -1,5 +1,4 @@
--- Rows and sets as BUILD left them: one build is as good as ten. BUILD over its own workspace changes nothing; the tests of a tape and its backward
--- pass then leave what `readyDef` says; and what REWRITE answers and writes does not look at what stood in the workspace. Assumes nothing.
+-- Rows and sets as BUILD left them: one build is as good as ten. The tests of a tape and its backward pass leave what `readyDef` says; and what REWRITE answers and writes does not look at what stood in the workspace. Assumes nothing.
 use Prim.Native.Nat.{ℕ, _+_, _≤_, _<_}
 use mathlib.Core.Path.{_≡_, refl, sym, ap, ap₂, _∙_}
 use mathlib.Core.List.{List, [], _++_}
@@ -8,18 +7,13 @@ use native.Mathlib.Omega.{arith}
 use native.Mathlib.Decide.{ℕ-discrete}
 use lib.Dec.{leb, ltb, eqb}
 use lib.ListN.{length, take, drop}
-use lib.Seq.{drop-drop, drop-at}
 use borrow.Author.Tests.{eq-eqb, ne-eqb, le-ltb, le-leb, lt-leb}
 use Rattle.book.specs.Reading.{bookOf}
 use Rattle.book.specs.Language.{Rules, rulesIn}
-use Rattle.book.specs.Format.{pad}
-use Rattle.book.proofs.Pad.{length-pad}
-use Rattle.sets.specs.Numbering.{mostSets, pairs, Table}
-use Rattle.sets.specs.Workspace.{rowBytes, setWords, leftTable, rightTable, AfterBuild, cleared, filled, numbered, buildDef}
+use Rattle.sets.specs.Workspace.{AfterBuild, buildDef}
 use Rattle.sets.specs.declared.Built.{Built}
-use Rattle.sets.specs.Tables.{leftCount, rightCount}
-use Rattle.sets.proofs.Tables.{left-width, right-width, build-rows, build-sets}
-use Rattle.sets.proofs.WaysOut.{Buildable, Way, refused, short, many-left, many-right, built, way, way-on, way-accepted, numbered-both, reply}
+use Rattle.sets.specs.Tables.{Buildable, AsBuilt}
+use Rattle.sets.proofs.Tables.{buildable, build-answer}
 use Rattle.stretches.specs.Buffers.{longestTape, onto}
 use Rattle.stretches.specs.Candidates.{taken}
 use Rattle.stretches.specs.Output.{rewriting, symbolsOf, originsOf}
@@ -30,69 +24,9 @@ use Rattle.output.proofs.Tapes.{tape-front, tape-front-origins}
 use Rattle.rewriter.specs.declared.Refusal.{Refusal}
 use Rattle.rewriter.specs.Replies.{firstBad, refusal, early, rightNumbers, AfterReady, readyLeaves, readyDef, AfterRewrite, rewriteLeaves, rewriteFrom}
 use Rattle.rewriter.specs.Replies.{rewriteDef}
-use Rattle.rewriter.specs.Opening.{Symbols, rightAll, AsBuilt, tapeRefusal, tapeTests, AfterOpening, opens, openDef}
+use Rattle.rewriter.specs.Opening.{Symbols, rightAll, tapeRefusal, tapeTests, AfterOpening, opens, openDef}
 use Rattle.rewriter.proofs.Early.{all-good, tape-good, tape-passed, tape-not-15, admitted}
 use Rattle.rewriter.proofs.MakeReady.{right-numbers, refused-is, ready-is}
-
--- ---- an accepting BUILD has a book that CHECK accepts, and room
-pub buildable : (book R S : List ℕ) → reply (buildDef book R S) ≡ 0 → Buildable book R S
-buildable book R S z = by (buildDef book R S) (way book R S) z
-  where
-    by : (x : AfterBuild) → Way book R S x → reply x ≡ 0 → Buildable book R S
-    by x (refused h e) z = absurd (h (sym (ap reply e) ∙ z))
-    by x (short h s e) z = absurd (let q = ap reply e in omega arith)
-    by x (many-left o l e) z = o
-    by x (many-right o l r e) z = o
-    by x (built o l r e) z = o
-
--- and it accepts wherever the book's sets are few and there is room
-pub accepts : (book R S : List ℕ) → Buildable book R S → leftCount book ≤ mostSets → rightCount book ≤ mostSets
-    → buildDef book R S ≡ filled (leftTable (bookOf book)) (rightTable (bookOf book)) R S
-unfolding leftCount rightCount
-accepts book R S o l r = sym (way-on book R S (o .accepted) (o .rows) (o .sets)) ∙ numbered-both _ _ R S l r
-
--- what stands past two parts
-past-parts : (n : ℕ) (P Q l : List ℕ) → length P ≤ n → length Q ≤ n → drop (n + n) (pad n P ++ (pad n Q ++ drop (n + n) l)) ≡ drop (n + n) l
-past-parts n P Q l hp hq =
-    sym (drop-drop n n (pad n P ++ (pad n Q ++ drop (n + n) l)))
-    ∙ ap (drop n) (drop-at (pad n P) (pad n Q ++ drop (n + n) l) n (length-pad n P hp))
-    ∙ drop-at (pad n Q) (drop (n + n) l) n (length-pad n Q hq)
-
--- "the workspace as BUILD leaves it": building again changes nothing
-module _ (book R S : List ℕ) (z : buildDef book R S .answer .reply ≡ 0) where
-  pub build-place : buildDef book R S .answer .place ≡ 0
-  build-place = ap (λ (x : AfterBuild). x .answer .place) (way-accepted book R S _ (way book R S) z .2)
-
-  pub buildable-again : Buildable book (buildDef book R S .rows) (buildDef book R S .sets)
-  buildable-again =
-      let o = buildable book R S z in
-      record { accepted = o .accepted; rows = omega (arith, o .rows, build-rows book R S); sets = omega (arith, o .sets, build-sets book R S) }
-
-  pub build-again : buildDef book (buildDef book R S .rows) (buildDef book R S .sets) ≡ buildDef book R S
-  unfolding leftCount rightCount
-  build-again =
-      let w = way-accepted book R S _ (way book R S) z in
-      let er = ap (λ (x : AfterBuild). x .rows) (w .2) in
-      let es = ap (λ (x : AfterBuild). x .sets) (w .2) in
-      let b = bookOf book in
-      accepts book (buildDef book R S .rows) (buildDef book R S .sets) buildable-again (w .0) (w .1)
-      ∙ ap₂ (λ (x y : List ℕ). record {
-        answer = record { reply = 0; place = 0; left = length (leftTable b .sets); right = length (rightTable b .sets) };
-        rows = pad pairs (leftTable b .rows) ++ (pad pairs (rightTable b .rows) ++ x);
-        sets = pad mostSets (leftTable b .sets) ++
-            (pad mostSets (rightTable b .sets) ++ y);
-      })
-      (ap (drop rowBytes) er ∙ past-parts pairs (leftTable b .rows) (rightTable b .rows) R (left-width book R S (w .0) (w .1))
-      (right-width book R S (w .0) (w .1)))
-      (ap (drop setWords) es ∙ past-parts mostSets (leftTable b .sets) (rightTable b .sets) S (w .0) (w .1))
-      ∙ sym (w .2)
-
-  pub as-built : AsBuilt book (buildDef book R S .rows) (buildDef book R S .sets)
-  as-built = record {
-    accepts = ap reply build-again ∙ z;
-    same-rows = ap (λ (x : AfterBuild). x .rows) build-again;
-    same-sets = ap (λ (x : AfterBuild). x .sets) build-again;
-  }
 
 -- ---- the tests of a tape after a build
 passed-place : (tape : List ℕ) → tapeRefusal tape .reply ≡ 0 → tapeRefusal tape ≡ refusal 0 0
@@ -218,23 +152,6 @@ module _ (book rows sets : List ℕ) (a : AsBuilt book rows sets) where
   opened-ready tape X r X′ e = ap (λ (x : AfterOpening). readyLeaves (x .answer) rows sets (x .scratch)) e ∙ opening-is tape X
 
 -- ---- what stood in the workspace has no influence
-numbered-answer : (left right : Table) (R S R′ S′ : List ℕ) → numbered left right R S .answer ≡ numbered left right R′ S′ .answer
-unfolding numbered
-numbered-answer left right R S R′ S′ = by (ltb mostSets (length (left .sets))) (ltb mostSets (length (right .sets)))
-  where
-    by : (a b : Bool) → cond a (cleared 13 R S) (cond b (cleared 14 R S) (filled left right R S)) .answer
-        ≡ cond a (cleared 13 R′ S′) (cond b (cleared 14 R′ S′) (filled left right R′ S′)) .answer
-    by true b = refl
-    by false true = refl
-    by false false = refl
-
--- BUILD's answer
-pub build-answer : (book R S R′ S′ : List ℕ) → Buildable book R S → Buildable book R′ S′ → buildDef book R S .answer ≡ buildDef book R′ S′ .answer
-build-answer book R S R′ S′ o o′ =
-    ap (λ (x : AfterBuild). x .answer) (sym (way-on book R S (o .accepted) (o .rows) (o .sets)))
-    ∙ numbered-answer (leftTable (bookOf book)) (rightTable (bookOf book)) R S R′ S′
-    ∙ ap (λ (x : AfterBuild). x .answer) (way-on book R′ S′ (o′ .accepted) (o′ .rows) (o′ .sets))
-
 -- what is handed on from there, by BUILD's reply: the refusal and the scratch
 abbrev handed : List ℕ → List ℕ → List ℕ → ℕ → AfterOpening
 handed book tape X n =

@@ -10,7 +10,6 @@ use Rattle.book.specs.Format.{symbolCount}
 use Rattle.book.specs.Language.{upFrom}
 use Rattle.sets.specs.Sets.{before}
 use Rattle.sets.specs.Tables.{rightEntry}
-use Rattle.sets.specs.Workspace.{buildDef}
 use Rattle.stretches.specs.Buffers.{longestTape, onto}
 use Rattle.rewriter.specs.Replies.{firstBad, refusal}
 use Rattle.rewriter.specs.declared.Refusal.{Refusal}
@@ -29,12 +28,6 @@ rightNumber rows t i = before 0 (rightEntry rows) (drop i t)
 
 unfoldable pub rightAll : List ℕ → List ℕ → List ℕ
 rightAll rows t = map (rightNumber rows t) (upFrom 0 (suc (length t)))
-
--- rows and sets are as BUILD leaves them for the book: it would accept, and change nothing
-pub record AsBuilt (book rows sets : List ℕ) : Type 0 where
-  pub accepts : buildDef book rows sets .answer .reply ≡ 0
-  pub same-rows : buildDef book rows sets .rows ≡ rows
-  pub same-sets : buildDef book rows sets .sets ≡ sets
 
 -- the refusals of a tape alone, 9 and 10; after a build those of a tape and its scratch, 9, 10 and 12
 unfoldable pub tapeRefusal : List ℕ → Refusal

@@ -2,8 +2,8 @@
 ghost use mathlib.Core.Path.{_≡_};
 ghost use lib.ListN.{length};
 ghost use Rattle.book.specs.Reading.{bookOf};
+ghost use Rattle.sets.specs.Tables.{AsBuilt};
 ghost use Rattle.rewriter.specs.Replies.{rewriteLeaves, rewriteDef, accountLeaves, accountDef};
-ghost use Rattle.rewriter.specs.Opening.{AsBuilt};
 
 mod refusals; // refusals.rt: the refusals before anything is built
 mod ready; // ready.rt: what REWRITE and ACCOUNT share, and one tape after a build

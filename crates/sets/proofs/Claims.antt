@@ -10,10 +10,10 @@ use lib.ListN.{length}
 use Rattle.book.specs.Reading.{bookOf}
 use Rattle.sets.specs.Numbering.{mostSets}
 use Rattle.sets.specs.Workspace.{rowBytes, setWords, leftTable, rightTable, AfterBuild, buildDef}
-use Rattle.sets.specs.Tables.{leftCount, rightCount}
+use Rattle.sets.specs.Tables.{leftCount, rightCount, Buildable}
 use Rattle.sets.specs.Counting.{leftOver, rightOver, Exactly, MoreThan}
 use Rattle.sets.proofs.Counts.{front, end, law-exactly, law-many, law-few}
-use Rattle.sets.proofs.WaysOut.{Buildable, Way, refused, short, many-left, many-right, built, way, reply, way-accepted}
+use Rattle.sets.proofs.WaysOut.{Way, refused, short, many-left, many-right, built, way, reply, way-accepted}
 
 -- more than 256 left sets, right sets, by the numbering and over all tapes
 pub left-many : (book : List ℕ) → (mostSets < leftCount book) ↔ MoreThan (leftOver (bookOf book)) mostSets

@@ -14,7 +14,7 @@ use Rattle.book.specs.Reading.{Book, checkDef, bookOf}
 use Rattle.sets.specs.Numbering.{mostSets, pairs, Table, pad}
 use Rattle.sets.specs.Workspace.{rowBytes, setWords, leftTable, rightTable, AfterBuild, buildLeaves}
 use Rattle.sets.specs.Workspace.{refusal, unchanged, cleared, filled, numbered, buildDef}
-use Rattle.sets.specs.Tables.{leftCount, rightCount}
+use Rattle.sets.specs.Tables.{leftCount, rightCount, Buildable}
 use Rattle.sets.specs.Sides.{sideFirst, sideStep, sideTable, NumberedAt}
 use Rattle.sets.specs.declared.Built.{Built}
 use Rattle.sets.proofs.Parts.{three}
@@ -103,12 +103,6 @@ module _ (left right : Table) (R S : List ℕ) (n : ℕ) (R₁ S₁ : List ℕ) 
         (ap₂ _++_ (two .numbered .sets k) (two .sets-after ∙ past mostSets mostSets S S₁ (one .sets-after)))
         in
         (λ i. buildLeaves (answer i) (rows i) (sets i)) ∙ sym (numbered-both left right R S fits (omega (arith, two .numbered .count k)))
-
--- the tests before 13 and 14 pass: the book is accepted, and the workspace is long enough
-pub record Buildable (book R S : List ℕ) : Type 0 where
-  pub accepted : checkDef book .reply ≡ 0
-  pub rows : rowBytes ≤ length R
-  pub sets : setWords ≤ length S
 
 -- the ways of BUILD, in the order of the replies
 pub data Way (book R S : List ℕ) (x : AfterBuild) : Type 0 where

@@ -4,10 +4,10 @@ use mathlib.Core.Path.{_≡_}
 use mathlib.Core.List.{List, [], _∷_}
 use lib.ListN.{length, getD}
 use Rattle.book.specs.Format.{symbolCount}
-use Rattle.book.specs.Reading.{bookOf}
+use Rattle.book.specs.Reading.{checkDef, bookOf}
 use Rattle.sets.specs.Sets.{leftFirst, leftNext, rightLast, rightPrev}
 use Rattle.sets.specs.Numbering.{mostSets, pairs, entry}
-use Rattle.sets.specs.Workspace.{rowBytes, setWords, leftTable, rightTable}
+use Rattle.sets.specs.Workspace.{rowBytes, setWords, leftTable, rightTable, buildDef}
 
 -- "BUILD the two set counts"
 unfoldable pub leftCount : List ℕ → ℕ
@@ -34,6 +34,18 @@ rightSet sets k = getD sets (mostSets + k) 0
 abbrev pub Tape : List ℕ → Type 0
 Tape [] = Unit {0}
 Tape (a ∷ w) = (a < symbolCount) × Tape w
+
+-- a book and a workspace that BUILD does not refuse at once
+pub record Buildable (book R S : List ℕ) : Type 0 where
+  pub accepted : checkDef book .reply ≡ 0
+  pub rows : rowBytes ≤ length R
+  pub sets : setWords ≤ length S
+
+-- rows and sets are as BUILD leaves them for the book: it would accept, and change nothing
+pub record AsBuilt (book rows sets : List ℕ) : Type 0 where
+  pub accepts : buildDef book rows sets .answer .reply ≡ 0
+  pub same-rows : buildDef book rows sets .rows ≡ rows
+  pub same-sets : buildDef book rows sets .sets ≡ sets
 
 -- each field for the left and for the right side
 pub record Tables (book rows sets : List ℕ) : Type 0 where
