@@ -2,12 +2,13 @@
 //! compared with what the proved operations do. It shares no code, no table and no constant with them.
 //!
 //! The reference is read in this order: `record`, `book`, `run`, `language`, `candidates`, `taken`, `stretches`,
-//! `output`, `account`, `sets`, `numbering`, `workspace`, `show`, `operations`, `program`; `agreement` says where `fast`
-//! stands in for it. Beside it stand the random calls (`generate`), the driving of another program (`call`, `answer`,
-//! `command`, `comparison`), the search for a smallest failing case (`shrink`), and the commands (`check`,
-//! `check_program`, `serve`).
+//! `output`, `account`, `sets`, `numbering`, `sides`, `workspace`, `admission`, `room`, `rewrite`, `show`, `operations`,
+//! `program`; `agreement` says where `fast` stands in for it. Beside it stand the random calls (`generate`), the driving
+//! of another program (`call`, `answer`, `command`, `comparison`), the search for a smallest failing case (`shrink`), and
+//! the commands (`check`, `check_program`, `serve`).
 
 pub mod account;
+pub mod admission;
 pub mod agreement;
 pub mod answer;
 pub mod book;
@@ -32,11 +33,14 @@ pub mod peer;
 pub mod program;
 pub mod reading;
 pub mod record;
+pub mod rewrite;
+pub mod room;
 pub mod run;
 pub mod serve;
 pub mod sets;
 pub mod show;
 pub mod shrink;
+pub mod sides;
 pub mod stretches;
 pub mod taken;
 pub mod tally;

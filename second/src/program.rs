@@ -1,10 +1,11 @@
 //! The program: document 01, "House book and program".
 
 use crate::account::{FIVE_WORDS, WORDS_A_LINE};
+use crate::admission::LONGEST_TAPE;
 use crate::answer::Answer;
 use crate::call::{Call, Lengths, Operation};
 use crate::house;
-use crate::operations::{self, LONGEST_TAPE};
+use crate::operations;
 use crate::reading::{Reading, Wrong};
 use crate::workspace;
 

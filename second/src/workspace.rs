@@ -2,8 +2,10 @@
 
 use crate::answer::Lent;
 use crate::book::SYMBOLS;
+use crate::call::Call;
 use crate::numbering::{Side, MOST_SETS};
 use crate::reading::{Reading, Wrong};
+use crate::sides::Sides;
 
 /// "The workspace is 8,192 bytes (left rows, then right rows: 256 rows of 16 next numbers a side)"
 pub const ROW_BYTES: usize = 2 * MOST_SETS * SYMBOLS;
@@ -72,4 +74,16 @@ pub fn write_scratch(lent: &mut Lent, mut numbers: Vec<usize>, reading: Reading)
     for (byte, number) in lent.scratch.iter_mut().zip(numbers) {
         *byte = number as u8;
     }
+}
+
+/// Workspace and scratch as acceptance leaves them.
+pub fn fill(call: &Call, sides: &Sides, lent: &mut Lent, reading: Reading) {
+    let (left, right) = sides.both();
+    write(lent, left, right, reading);
+    let sets = sides.agreement.right_sets(sides.book, &call.tape);
+    let numbers = match reading.is(Wrong::ScratchLeft) {
+        false => sets.iter().map(|set| right.number(*set)).collect(),
+        true => left.numbers_along(&call.tape),
+    };
+    write_scratch(lent, numbers, reading);
 }

@@ -1,10 +1,10 @@
 //! Lengths of lent buffers: exact, larger, short by one, empty.
 
 use crate::account::{self, WORDS_A_LINE};
+use crate::admission::LONGEST_TAPE;
 use crate::book::{self, HIGHEST_SYMBOL};
 use crate::call::{Call, Lengths, Operation};
 use crate::chance::Chance;
-use crate::operations::LONGEST_TAPE;
 use crate::output::output;
 use crate::reading::Reading;
 use crate::stretches::Stretches;

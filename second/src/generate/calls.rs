@@ -2,10 +2,10 @@
 
 use super::alphabet::Alphabet;
 use super::{accounts, buffers, damage, limits, rules, tapes};
+use crate::admission::LONGEST_TAPE;
 use crate::call::{Call, Operation};
 use crate::chance::Chance;
 use crate::draft;
-use crate::operations::LONGEST_TAPE;
 
 pub fn call(seed: u64, number: u64) -> Call {
     let chance = &mut Chance::of(seed, number);

@@ -4,12 +4,12 @@ use super::alphabet::Alphabet;
 use super::full;
 use super::tapes;
 use crate::account::WORDS_A_LINE;
+use crate::admission::LONGEST_TAPE;
 use crate::book::{HIGHEST_SYMBOL, MOST_ARCS, MOST_RULES, MOST_STATES, SYMBOLS};
 use crate::call::{Call, Lengths, Operation, LONGEST_BOOK, LONGEST_TAPE as LONGEST_SENT};
 use crate::chance::Chance;
 use crate::draft::{self, Part, Rule};
 use crate::house;
-use crate::operations::LONGEST_TAPE;
 use crate::record::{self, ARC, RULE, STATE};
 use crate::workspace;
 

@@ -1,8 +1,8 @@
 //! Inputs for the program: lines at random, and the ways an input can end.
 
 use crate::account::WORDS_A_LINE;
+use crate::admission::LONGEST_TAPE;
 use crate::chance::Chance;
-use crate::operations::LONGEST_TAPE;
 use crate::program::ACCOUNT_WORDS;
 
 /// The lines that the program's account has room for: 1,000.

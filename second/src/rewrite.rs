@@ -1,0 +1,45 @@
+//! REWRITE of a call that is admitted.
+
+use crate::answer::Lent;
+use crate::book::Refusal;
+use crate::call::Call;
+use crate::output::output;
+use crate::reading::{Reading, Wrong};
+use crate::room::{no_room, room, write_front};
+use crate::sides::Sides;
+use crate::stretches::Stretches;
+use crate::workspace;
+
+/// "REWRITE the output length and the number of stretches taken"
+#[derive(Clone, Copy)]
+pub struct Rewritten {
+    pub length: usize,
+    pub taken: usize,
+}
+
+/// Workspace, scratch and output, given the stretches of the call's tape.
+pub fn rewrite(
+    call: &Call,
+    sides: &Sides,
+    stretches: &Stretches,
+    lent: &mut Lent,
+    reading: Reading,
+) -> Result<Rewritten, Refusal> {
+    let untouched = lent.clone();
+    workspace::fill(call, sides, lent, reading);
+    let output = output(sides.book, &call.tape, &stretches.taken, reading);
+    let length = output.symbols.len();
+    let out = room(lent.out.len(), length, reading) || reading.is(Wrong::OutUntested);
+    let origins = room(lent.origins.len(), length, reading) || reading.is(Wrong::OriginsUntested);
+    if !(out && origins) {
+        if reading.is(Wrong::RoomWritesFront) {
+            write_front(&mut lent.out, &output.symbols, reading);
+            write_front(&mut lent.origins, &output.origins, reading);
+        }
+        return Err(no_room(lent, untouched, length, call.lengths.out.min(call.lengths.origins), reading));
+    }
+    write_front(&mut lent.out, &output.symbols, reading);
+    write_front(&mut lent.origins, &output.origins, reading);
+    let taken = reading.value(stretches.taken.len(), Wrong::TakenCountsCandidates, stretches.count);
+    Ok(Rewritten { length, taken })
+}
