@@ -23,10 +23,12 @@ fn order(reading: Reading) -> [u8; 6] {
     wrongly.map_or([9, 10, 11, 12, 13, 14], |(_, order)| *order)
 }
 
-/// The tests between the book and the room for the result. "BUILD adds 11, 13, 14; the two others give all."
+/// The tests between the book and the room for the result. "BUILD adds 11, 13, 14; the two others give all." HEAT as a
+/// whole gives BUILD's.
 pub fn admit(call: &Call, sides: &Sides, lent: &mut Lent, reading: Reading) -> Result<(), Refusal> {
     for reply in order(reading) {
-        let skipped = call.operation == Operation::Build && matches!(reply, 9 | 10 | 12);
+        let of_build = matches!(call.operation, Operation::Build | Operation::Heat);
+        let skipped = of_build && matches!(reply, 9 | 10 | 12);
         let place = if skipped { None } else { place_of(reply, call, sides, reading) };
         if let Some(place) = place {
             if reply >= 13 || reply == 12 && reading.is(Wrong::ScratchRefusalClears) {

@@ -3,7 +3,42 @@
 use std::fmt::Debug;
 use std::io::{self, Read};
 
-use crate::call::{read_bytes, Call, Operation};
+use crate::call::{read_bytes, read_longs, read_words, Call, Lane, Operation};
+
+/// Document 02, No. 2: "lane records, each with the start and length of its tape in one common buffer. Each record gets
+/// back output length, stretches taken, reply and place."
+#[derive(Clone, Copy, PartialEq, Eq, Debug)]
+pub struct LaneRecord {
+    pub start: u64,
+    pub length: u64,
+    pub out: u64,
+    pub taken: u64,
+    pub reply: u8,
+    pub place: u64,
+}
+
+impl LaneRecord {
+    fn before(lane: &Lane, fill: u8) -> LaneRecord {
+        let long = u64::from_le_bytes([fill; 8]);
+        LaneRecord { start: lane.start, length: lane.length, out: long, taken: long, reply: fill, place: long }
+    }
+
+    fn to_bytes(self) -> Vec<u8> {
+        let numbers = [self.start, self.length, self.out, self.taken];
+        let mut bytes: Vec<u8> = numbers.into_iter().flat_map(u64::to_le_bytes).collect();
+        bytes.push(self.reply);
+        bytes.extend(self.place.to_le_bytes());
+        bytes
+    }
+
+    fn read(input: &mut impl Read) -> io::Result<LaneRecord> {
+        let numbers = read_longs(input, 4)?;
+        let reply = read_bytes(input, 1)?[0];
+        let place = read_longs(input, 1)?[0];
+        let [start, length, out, taken] = [numbers[0], numbers[1], numbers[2], numbers[3]];
+        Ok(LaneRecord { start, length, out, taken, reply, place })
+    }
+}
 
 /// The buffers that an operation can be lent for writing. One that it is not lent is empty.
 #[derive(Clone, PartialEq, Eq, Debug, Default)]
@@ -14,29 +49,23 @@ pub struct Lent {
     pub out: Vec<u8>,
     pub origins: Vec<u16>,
     pub lines: Vec<u16>,
+    pub lanes: Vec<LaneRecord>,
 }
 
 impl Lent {
     /// The buffers as the operation finds them: the call's fill in every byte.
     pub fn before(call: &Call) -> Lent {
         let (word, long) = (u16::from_le_bytes([call.fill; 2]), u64::from_le_bytes([call.fill; 8]));
-        let lengths = call.lengths;
-        let mut lent = Lent::default();
-        if matches!(call.operation, Operation::Build | Operation::Rewrite | Operation::Account) {
-            lent.rows = vec![call.fill; lengths.rows];
-            lent.sets = vec![long; lengths.sets];
+        let lengths = call.lent_lengths();
+        Lent {
+            rows: vec![call.fill; lengths.rows],
+            sets: vec![long; lengths.sets],
+            scratch: vec![call.fill; lengths.scratch],
+            out: vec![call.fill; lengths.out],
+            origins: vec![word; lengths.origins],
+            lines: vec![word; lengths.lines],
+            lanes: call.lanes.iter().map(|lane| LaneRecord::before(lane, call.fill)).collect(),
         }
-        if matches!(call.operation, Operation::Rewrite | Operation::Account) {
-            lent.scratch = vec![call.fill; lengths.scratch];
-        }
-        if call.operation == Operation::Rewrite {
-            lent.out = vec![call.fill; lengths.out];
-            lent.origins = vec![word; lengths.origins];
-        }
-        if call.operation == Operation::Account {
-            lent.lines = vec![word; lengths.lines];
-        }
-        lent
     }
 }
 
@@ -64,13 +93,14 @@ impl Answer {
         bytes.extend(&self.lent.out);
         bytes.extend(self.lent.origins.iter().flat_map(|word| word.to_le_bytes()));
         bytes.extend(self.lent.lines.iter().flat_map(|word| word.to_le_bytes()));
+        bytes.extend(self.lent.lanes.iter().flat_map(|lane| lane.to_bytes()));
         bytes
     }
 
     /// Reads the answer to a call; how long it is follows from the call, and for SHOW from its first count.
     pub fn read(call: &Call, input: &mut impl Read) -> io::Result<Answer> {
-        let head = read_bytes(input, 2 + 8 + 4 * 8)?;
-        let numbers: Vec<u64> = head[2..].chunks(8).map(long).collect();
+        let head = read_bytes(input, 2)?;
+        let numbers = read_longs(input, 1 + 4)?;
         let operation = Operation::numbered(head[0]).ok_or_else(|| io::Error::other("an answer of no operation"))?;
         let counts = [numbers[1], numbers[2], numbers[3], numbers[4]];
         let shown = if call.operation == Operation::Show { counts[0] as usize } else { 0 };
@@ -99,6 +129,7 @@ impl Answer {
             .or_else(|| first_element("out", &self.lent.out, &other.lent.out))
             .or_else(|| first_element("origins", &self.lent.origins, &other.lent.origins))
             .or_else(|| first_element("lines", &self.lent.lines, &other.lent.lines))
+            .or_else(|| first_element("lanes", &self.lent.lanes, &other.lent.lanes))
     }
 }
 
@@ -112,18 +143,11 @@ fn first_element<T: PartialEq + Debug>(buffer: &str, mine: &[T], theirs: &[T]) -
 fn read_lent(before: &Lent, input: &mut impl Read) -> io::Result<Lent> {
     Ok(Lent {
         rows: read_bytes(input, before.rows.len())?,
-        sets: read_bytes(input, 8 * before.sets.len())?.chunks(8).map(long).collect(),
+        sets: read_longs(input, before.sets.len())?,
         scratch: read_bytes(input, before.scratch.len())?,
         out: read_bytes(input, before.out.len())?,
         origins: read_words(input, before.origins.len())?,
         lines: read_words(input, before.lines.len())?,
+        lanes: before.lanes.iter().map(|_| LaneRecord::read(input)).collect::<io::Result<_>>()?,
     })
-}
-
-fn read_words(input: &mut impl Read, length: usize) -> io::Result<Vec<u16>> {
-    Ok(read_bytes(input, 2 * length)?.chunks(2).map(|word| u16::from_le_bytes([word[0], word[1]])).collect())
-}
-
-fn long(bytes: &[u8]) -> u64 {
-    bytes.iter().rev().fold(0, |number, byte| number << 8 | u64::from(*byte))
 }

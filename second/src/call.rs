@@ -2,7 +2,7 @@
 
 use std::io::{self, Read};
 
-/// The five operations, numbered as in a request.
+/// The operations, numbered as in a request.
 #[derive(Clone, Copy, PartialEq, Eq, Debug)]
 pub enum Operation {
     Check = 1,
@@ -10,11 +10,12 @@ pub enum Operation {
     Rewrite = 3,
     Account = 4,
     Show = 5,
+    Heat = 6,
 }
 
 impl Operation {
-    pub const ALL: [Operation; 5] =
-        [Operation::Check, Operation::Build, Operation::Rewrite, Operation::Account, Operation::Show];
+    pub const ALL: [Operation; 6] =
+        [Operation::Check, Operation::Build, Operation::Rewrite, Operation::Account, Operation::Show, Operation::Heat];
 
     pub fn numbered(number: u8) -> Option<Operation> {
         Operation::ALL.into_iter().find(|operation| *operation as u8 == number)
@@ -27,6 +28,7 @@ impl Operation {
             Operation::Rewrite => "REWRITE",
             Operation::Account => "ACCOUNT",
             Operation::Show => "SHOW",
+            Operation::Heat => "HEAT",
         }
     }
 }
@@ -42,17 +44,27 @@ pub struct Lengths {
     pub lines: usize,
 }
 
+/// Where a lane's tape stands in the common buffer. A record may say any numbers.
+#[derive(Clone, Copy, PartialEq, Eq, Debug, Default)]
+pub struct Lane {
+    pub start: u64,
+    pub length: u64,
+}
+
 #[derive(Clone, PartialEq, Eq, Debug)]
 pub struct Call {
     pub operation: Operation,
-    /// The byte that stands everywhere in the lent buffers before the call.
+    /// The byte that stands everywhere in the lent buffers before the call, and in what a lane record gets back.
     pub fill: u8,
     pub book: Vec<u8>,
+    /// For HEAT the common buffer.
     pub tape: Vec<u8>,
     pub lengths: Lengths,
     /// SHOW alone: the account, and the number of the line.
     pub account: Vec<u16>,
     pub line: u32,
+    /// HEAT alone: what its lane records say.
+    pub lanes: Vec<Lane>,
 }
 
 /// The longest lengths a request may carry: book, tape, rows, sets, scratch, out, origins, lines.
@@ -60,6 +72,8 @@ const LONGEST: [usize; 8] = [65_536, 65_536, 40_000, 1024, 65_536, 65_536, 65_53
 pub const LONGEST_BOOK: usize = LONGEST[0];
 pub const LONGEST_TAPE: usize = LONGEST[1];
 pub const MOST_LINE_WORDS: usize = LONGEST[7];
+/// HEAT has lanes in the place of lines.
+pub const MOST_LANES_SENT: usize = 12;
 
 /// What reading a request can come to.
 pub enum Request {
@@ -80,18 +94,24 @@ impl Call {
             lengths: Lengths::default(),
             account: Vec::new(),
             line: 0,
+            lanes: Vec::new(),
+        }
+    }
+
+    /// The lengths of the buffers that the operation is lent, 0 for the others.
+    pub fn lent_lengths(&self) -> Lengths {
+        let Lengths { rows, sets, scratch, out, origins, lines } = self.lengths;
+        match self.operation {
+            Operation::Check | Operation::Show => Lengths::default(),
+            Operation::Build => Lengths { rows, sets, ..Lengths::default() },
+            Operation::Rewrite | Operation::Heat => Lengths { rows, sets, scratch, out, origins, lines: 0 },
+            Operation::Account => Lengths { rows, sets, scratch, lines, ..Lengths::default() },
         }
     }
 
     /// The same with length 0 for every buffer that the operation is not lent.
     pub fn lent_alone(mut self) -> Call {
-        let Lengths { rows, sets, scratch, out, origins, lines } = self.lengths;
-        self.lengths = match self.operation {
-            Operation::Check | Operation::Show => Lengths::default(),
-            Operation::Build => Lengths { rows, sets, ..Lengths::default() },
-            Operation::Rewrite => Lengths { rows, sets, scratch, out, origins, lines: 0 },
-            Operation::Account => Lengths { rows, sets, scratch, lines, ..Lengths::default() },
-        };
+        self.lengths = self.lent_lengths();
         self
     }
 
@@ -109,7 +129,11 @@ impl Call {
 
     pub fn to_bytes(&self) -> Vec<u8> {
         let Lengths { rows, sets, scratch, out, origins, lines } = self.lengths;
-        let lines = if self.operation == Operation::Show { self.account.len() } else { lines };
+        let lines = match self.operation {
+            Operation::Show => self.account.len(),
+            Operation::Heat => self.lanes.len(),
+            _ => lines,
+        };
         let mut bytes = vec![self.operation as u8, self.fill];
         for length in [self.book.len(), self.tape.len(), rows, sets, scratch, out, origins, lines] {
             bytes.extend((length as u32).to_le_bytes());
@@ -118,6 +142,7 @@ impl Call {
         bytes.extend(&self.book);
         bytes.extend(&self.tape);
         bytes.extend(self.account.iter().flat_map(|word| word.to_le_bytes()));
+        bytes.extend(self.lanes.iter().flat_map(|lane| [lane.start, lane.length]).flat_map(u64::to_le_bytes));
         bytes
     }
 
@@ -143,19 +168,23 @@ impl Call {
             *length = read_number(input)? as usize;
         }
         call.line = read_number(input)?;
-        if lengths.iter().zip(LONGEST).any(|(length, longest)| *length > longest) {
+        let mut longest = LONGEST;
+        if operation == Operation::Heat {
+            longest[7] = MOST_LANES_SENT;
+        }
+        if lengths.iter().zip(longest).any(|(length, longest)| *length > longest) {
             return Ok(None);
         }
         let [book, tape, rows, sets, scratch, out, origins, lines] = lengths;
         call.book = read_bytes(input, book)?;
         call.tape = read_bytes(input, tape)?;
-        if operation == Operation::Show {
-            let account = read_bytes(input, 2 * lines)?;
-            call.account = account.chunks(2).map(|word| u16::from_le_bytes([word[0], word[1]])).collect();
-            return Ok(Some(call));
-        }
         call.lengths = Lengths { rows, sets, scratch, out, origins, lines };
-        Ok(Some(call))
+        match operation {
+            Operation::Show => call.account = read_words(input, lines)?,
+            Operation::Heat => call.lanes = read_lanes(input, lines)?,
+            _ => {}
+        }
+        Ok(Some(call.lent_alone()))
     }
 
     /// The call in words, for a reader who wants to work it by hand.
@@ -165,6 +194,9 @@ impl Call {
             words += &format!("  book: {}\n", crate::record::in_words(&piece));
         }
         words += &format!("  tape of {}: {}\n", self.tape.len(), crate::hex::shown(&self.tape));
+        for (at, Lane { start, length }) in self.lanes.iter().enumerate() {
+            words += &format!("  lane {at}: start {start}, length {length}\n");
+        }
         if self.operation == Operation::Show {
             words += &format!("  account of {} words: {:?}\n  line {}\n", self.account.len(), self.account, self.line);
         } else {
@@ -178,6 +210,21 @@ pub fn read_bytes(input: &mut impl Read, length: usize) -> io::Result<Vec<u8>> {
     let mut bytes = vec![0; length];
     input.read_exact(&mut bytes)?;
     Ok(bytes)
+}
+
+pub fn read_words(input: &mut impl Read, length: usize) -> io::Result<Vec<u16>> {
+    Ok(read_bytes(input, 2 * length)?.chunks(2).map(|word| u16::from_le_bytes([word[0], word[1]])).collect())
+}
+
+/// So many 64-bit numbers.
+pub fn read_longs(input: &mut impl Read, length: usize) -> io::Result<Vec<u64>> {
+    let long = |bytes: &[u8]| bytes.iter().rev().fold(0, |number, byte| number << 8 | u64::from(*byte));
+    Ok(read_bytes(input, 8 * length)?.chunks(8).map(long).collect())
+}
+
+fn read_lanes(input: &mut impl Read, length: usize) -> io::Result<Vec<Lane>> {
+    let lane = |pair: &[u64]| Lane { start: pair[0], length: pair[1] };
+    Ok(read_longs(input, 2 * length)?.chunks(2).map(lane).collect())
 }
 
 fn read_number(input: &mut impl Read) -> io::Result<u32> {

@@ -61,6 +61,7 @@ pub fn one(door: &Command, call: &Call) -> io::Result<bool> {
     let expected = &comparison.expected[0];
     print!("{}", call.in_words());
     println!("expected reply {}, place {}, counts {:?}", expected.reply, expected.place, expected.counts);
+    expected.lent.lanes.iter().for_each(|lane| println!("expected {lane:?}"));
     let failed = comparison.difference.map(|difference| println!("differs: {}", difference.words)).is_some();
     println!("{} passed, {} failed", u8::from(!failed), u8::from(failed));
     Ok(!failed)

@@ -1,11 +1,11 @@
-//! The independent second program: what document 01 says, with No. 1 of document 02, worked out by brute force, and
-//! compared with what the proved operations do. It shares no code, no table and no constant with them.
+//! The independent second program: what document 01 says, with No. 1 and No. 2 of document 02, worked out by brute
+//! force, and compared with what the proved operations do. It shares no code, no table and no constant with them.
 //!
 //! The reference is read in this order: `record`, `book`, `run`, `language`, `candidates`, `taken`, `stretches`,
-//! `output`, `account`, `sets`, `numbering`, `sides`, `workspace`, `admission`, `room`, `rewrite`, `show`, `operations`,
-//! `program`; `agreement` says where `fast` stands in for it. Beside it stand the random calls (`generate`), the driving
-//! of another program (`call`, `answer`, `command`, `comparison`), the search for a smallest failing case (`shrink`), and
-//! the commands (`check`, `check_program`, `serve`).
+//! `output`, `account`, `sets`, `numbering`, `sides`, `workspace`, `admission`, `room`, `rewrite`, `show`, `lane`, `heat`,
+//! `operations`, `program`; `agreement` says where `fast` stands in for it. Beside it stand the random calls
+//! (`generate`), the driving of another program (`call`, `answer`, `command`, `comparison`), the search for a smallest
+//! failing case (`shrink`), and the commands (`check`, `check_program`, `serve`).
 
 pub mod account;
 pub mod admission;
@@ -23,8 +23,10 @@ pub mod draft;
 pub mod fast;
 pub mod generate;
 pub mod hand;
+pub mod heat;
 pub mod hex;
 pub mod house;
+pub mod lane;
 pub mod language;
 pub mod numbering;
 pub mod operations;

@@ -1,4 +1,4 @@
-//! The five operations: reply, place, counts, and every lent buffer afterwards.
+//! The operations: reply, place, counts, and every lent buffer afterwards.
 
 use crate::account::{self, FIVE_WORDS, WORDS_A_LINE};
 use crate::admission::{admit, LONGEST_TAPE};
@@ -6,6 +6,7 @@ use crate::agreement::Agreement;
 use crate::answer::{Answer, Lent};
 use crate::book::{self, Book, Refusal};
 use crate::call::{Call, Operation};
+use crate::heat::heat;
 use crate::reading::{Reading, Wrong};
 use crate::rewrite::{self, Rewritten};
 use crate::room::{no_room, room, write_front};
@@ -31,6 +32,7 @@ pub fn answer_by(call: &Call, agreement: &Agreement) -> Answer {
         Operation::Rewrite => rewrite(call, &mut lent, agreement),
         Operation::Account => account(call, &mut lent, agreement),
         Operation::Show => return shown(call, reading),
+        Operation::Heat => heat(call, &mut lent, agreement).map(|()| NO_COUNTS),
     };
     let (refusal, counts) = match result {
         Ok(counts) => (Refusal { reply: 0, place: 0 }, counts),

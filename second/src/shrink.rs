@@ -1,7 +1,7 @@
 //! The smallest failing case that can be found from a failing one.
 
-use crate::call::{Call, Lengths, Operation};
-use crate::generate::buffers::needed;
+use crate::call::{Call, Lane, Lengths, Operation};
+use crate::generate::buffers::{lane_tapes, needed, needed_by_lanes};
 use crate::record::{self, ARC, RULE, STATE};
 use crate::workspace;
 
@@ -45,9 +45,11 @@ fn size(call: &Call) -> usize {
     let Lengths { rows, sets, scratch, out, origins, lines } = call.lengths;
     let lengths = [rows.abs_diff(workspace::ROW_BYTES), sets.abs_diff(workspace::SETS), scratch, out, origins, lines];
     let not_zero = |bytes: &[u8]| bytes.iter().filter(|byte| **byte != 0).count();
-    100 * (call.book.len() + call.tape.len() + call.account.len())
+    let lanes = call.lanes.iter().flat_map(|lane| [lane.start, lane.length]);
+    100 * (call.book.len() + call.tape.len() + call.account.len() + call.lanes.len())
         + lengths.into_iter().map(weight).sum::<usize>()
         + call.account.iter().map(|word| weight(*word as usize)).sum::<usize>()
+        + lanes.map(|number| weight(number as usize)).sum::<usize>()
         + not_zero(&call.tape)
         + not_zero(&call.book)
         + weight(call.line as usize)
@@ -71,7 +73,7 @@ fn smaller(call: &Call) -> Vec<Try<'_>> {
     let books = smaller_books(&call.book).into_iter().map(|book| Call { book, ..call.clone() });
     let tapes = smaller_lists(&call.tape).into_iter().map(|tape| Call { tape, ..call.clone() });
     let mut tries: Vec<Try> = Vec::new();
-    for changed in books.chain(tapes) {
+    for changed in smaller_heats(call).into_iter().chain(books).chain(tapes) {
         let again = changed.clone();
         tries.push(Box::new(move || lent_again(call, was, &again)));
         tries.push(Box::new(move || changed.clone()));
@@ -89,7 +91,16 @@ fn smaller(call: &Call) -> Vec<Try<'_>> {
 fn needed_by(call: &Call) -> usize {
     match call.operation {
         Operation::Rewrite | Operation::Account => needed(call),
+        Operation::Heat => needed_by_lanes(call).iter().sum(),
         _ => 0,
+    }
+}
+
+/// The longest tape that is given scratch.
+fn longest_tape(call: &Call) -> usize {
+    match call.operation {
+        Operation::Heat => lane_tapes(call).iter().map(|tape| tape.len()).max().unwrap_or(0),
+        _ => call.tape.len(),
     }
 }
 
@@ -98,7 +109,7 @@ fn lent_again(before: &Call, was: usize, changed: &Call) -> Call {
     let is = needed_by(changed);
     let moved = |length: usize, was: usize, is: usize| (length + is).saturating_sub(was).min(length);
     let lengths = Lengths {
-        scratch: moved(before.lengths.scratch, before.tape.len(), changed.tape.len()),
+        scratch: moved(before.lengths.scratch, longest_tape(before), longest_tape(changed)),
         out: moved(before.lengths.out, was, is),
         origins: moved(before.lengths.origins, was, is),
         lines: moved(before.lengths.lines, was, is),
@@ -115,7 +126,7 @@ fn smaller_lengths(call: &Call, exact: usize) -> Vec<Lengths> {
         Lengths { rows: lengths.rows.saturating_sub(1), ..lengths },
         Lengths { sets: lengths.sets.saturating_sub(1), ..lengths },
     ];
-    for scratch in [0, call.tape.len() + 1, lengths.scratch.saturating_sub(1)] {
+    for scratch in [0, longest_tape(call) + 1, lengths.scratch.saturating_sub(1)] {
         all.push(Lengths { scratch, ..lengths });
     }
     for shorter in [0, exact, exact.saturating_sub(1)] {
@@ -124,6 +135,41 @@ fn smaller_lengths(call: &Call, exact: usize) -> Vec<Lengths> {
         all.push(Lengths { lines: shorter, ..lengths });
     }
     all
+}
+
+/// A heat of one lane's tape alone; then with lanes left out, with symbols left out, or with a lane's numbers smaller.
+fn smaller_heats(call: &Call) -> Vec<Call> {
+    let with = |lanes: Vec<Lane>| Call { lanes, ..call.clone() };
+    let alone = |tape: &[u8]| Call { tape: tape.to_vec(), ..with(vec![Lane { start: 0, length: tape.len() as u64 }]) };
+    let mut smaller: Vec<Call> = lane_tapes(call).into_iter().map(alone).collect();
+    smaller.extend(smaller_lists(&call.lanes).into_iter().map(with));
+    if !call.lanes.is_empty() {
+        smaller.extend(parts(call.tape.len()).into_iter().map(|part| without_symbols(call, part)));
+    }
+    for (at, Lane { start, length }) in call.lanes.iter().copied().enumerate() {
+        let less = |number: u64| [number / 2, number.saturating_sub(1)];
+        let starts = less(start).map(|start| Lane { start, length });
+        for lane in starts.into_iter().chain(less(length).map(|length| Lane { start, length })) {
+            let mut lanes = call.lanes.clone();
+            lanes[at] = lane;
+            smaller.push(with(lanes));
+        }
+    }
+    smaller
+}
+
+/// The common buffer without these symbols; what stands after them moves down, and lanes move with it.
+fn without_symbols(call: &Call, (from, to): (usize, usize)) -> Call {
+    let moved = |position: u128| match position {
+        position if position >= to as u128 => position - (to - from) as u128,
+        position => position.min(from as u128),
+    };
+    let moved_lane = |lane: &Lane| {
+        let (start, end) = (u128::from(lane.start), u128::from(lane.start) + u128::from(lane.length));
+        Lane { start: moved(start) as u64, length: (moved(end) - moved(start)) as u64 }
+    };
+    let tape = [&call.tape[..from], &call.tape[to..]].concat();
+    Call { tape, lanes: call.lanes.iter().map(moved_lane).collect(), ..call.clone() }
 }
 
 /// The bounds of parts of a list that may be left out, the largest first, at most so many of one length.

@@ -3,7 +3,7 @@
 use std::process::{Command, Output};
 
 use second::answer::Answer;
-use second::call::{Call, Operation, Request};
+use second::call::{Call, Lane, Operation, Request};
 use second::generate::calls::call;
 use second::operations::answer;
 use second::reading::Reading;
@@ -44,12 +44,17 @@ fn bad_requests_are_refused() {
     let good = Call::new(Operation::Check).to_bytes();
     assert!(!refused(&good));
     assert!((1..good.len()).all(|length| refused(&good[..length])), "cut short");
-    assert!([0, 6, 255].iter().all(|operation| refused(&[&[*operation], &good[1..]].concat())), "another operation");
+    assert!([0, 7, 255].iter().all(|operation| refused(&[&[*operation], &good[1..]].concat())), "another operation");
     for length in 0..8 {
         let mut long = good.clone();
         long[2 + 4 * length..][..4].copy_from_slice(&131_073u32.to_le_bytes());
         assert!(refused(&long), "length {length}");
     }
+    let heat =
+        |lanes| Call { lanes: vec![Lane { start: 1, length: 2 }; lanes], ..Call::new(Operation::Heat) }.to_bytes();
+    assert!(!refused(&heat(0)) && !refused(&heat(12)));
+    assert!(refused(&heat(13)), "too many lanes to be sent");
+    assert!((1..heat(2).len()).all(|length| refused(&heat(2)[..length])), "cut short");
     assert!(matches!(Call::read(&mut &[][..]), Ok(Request::Ended)));
 }
 

@@ -2,9 +2,10 @@
 
 use crate::account::{self, WORDS_A_LINE};
 use crate::admission::LONGEST_TAPE;
-use crate::book::{self, HIGHEST_SYMBOL};
+use crate::book::{self, Book, HIGHEST_SYMBOL};
 use crate::call::{Call, Lengths, Operation};
 use crate::chance::Chance;
+use crate::lane;
 use crate::output::output;
 use crate::reading::Reading;
 use crate::stretches::Stretches;
@@ -13,7 +14,7 @@ use crate::workspace;
 /// Lengths for a call whose book and tape are chosen.
 pub fn lengths(call: &Call, chance: &mut Chance) -> Lengths {
     let mut lengths = Lengths::default();
-    if matches!(call.operation, Operation::Build | Operation::Rewrite | Operation::Account) {
+    if !matches!(call.operation, Operation::Check | Operation::Show) {
         lengths.rows = mostly_enough(workspace::ROW_BYTES, chance);
         lengths.sets = mostly_enough(workspace::SETS, chance);
     }
@@ -28,20 +29,65 @@ pub fn lengths(call: &Call, chance: &mut Chance) -> Lengths {
     if call.operation == Operation::Account {
         lengths.lines = around(needed(call), chance);
     }
+    if call.operation == Operation::Heat {
+        lengths.scratch = mostly_enough(needed_scratch(call, chance), chance);
+        let needed = needed_by_lanes(call);
+        lengths.out = around_or_within(&needed, chance);
+        lengths.origins = around_or_within(&needed, chance);
+    }
     lengths
 }
 
 /// Symbols or words that an accepted call would need, so that the lengths tried lie around it.
 pub fn needed(call: &Call) -> usize {
     let Ok(book) = book::read(&call.book, Reading::TRUE) else { return 3 };
-    if call.tape.len() > LONGEST_TAPE || call.tape.iter().any(|symbol| *symbol > HIGHEST_SYMBOL) {
+    if is_refused(&call.tape) {
         return call.tape.len().min(20);
     }
-    let stretches = Stretches::fast(&book, &call.tape);
     match call.operation {
-        Operation::Rewrite => output(&book, &call.tape, &stretches.taken, Reading::TRUE).symbols.len(),
-        _ => WORDS_A_LINE * account::length(&stretches, Reading::TRUE),
+        Operation::Rewrite => output_length(&book, &call.tape),
+        _ => WORDS_A_LINE * account::length(&Stretches::fast(&book, &call.tape), Reading::TRUE),
     }
+}
+
+/// Symbols that each lane of a heat would need alone; one that is refused for its tape needs none.
+pub fn needed_by_lanes(call: &Call) -> Vec<usize> {
+    let Ok(book) = book::read(&call.book, Reading::TRUE) else { return Vec::new() };
+    let needed = |tape: &&[u8]| if is_refused(tape) { 0 } else { output_length(&book, tape) };
+    lane_tapes(call).iter().map(needed).collect()
+}
+
+fn is_refused(tape: &[u8]) -> bool {
+    tape.len() > LONGEST_TAPE || tape.iter().any(|symbol| *symbol > HIGHEST_SYMBOL)
+}
+
+fn output_length(book: &Book, tape: &[u8]) -> usize {
+    output(book, tape, &Stretches::fast(book, tape).taken, Reading::TRUE).symbols.len()
+}
+
+/// The tapes of those lanes that do not leave the common buffer.
+pub fn lane_tapes(call: &Call) -> Vec<&[u8]> {
+    let stretches = call.lanes.iter().filter_map(|lane| lane::stretch(*lane, call.tape.len()));
+    stretches.map(|stretch| &call.tape[stretch]).collect()
+}
+
+/// Scratch for the longest lane that needs it; now and then for another one, which leaves longer ones without.
+fn needed_scratch(call: &Call, chance: &mut Chance) -> usize {
+    let mut lengths: Vec<usize> = lane_tapes(call).iter().map(|tape| tape.len()).collect();
+    lengths.retain(|length| *length <= LONGEST_TAPE);
+    let longest = lengths.iter().copied().max().unwrap_or(0);
+    let length = if !lengths.is_empty() && chance.one_in(4) { chance.pick(&lengths) } else { longest };
+    length + 1
+}
+
+/// Room for all lanes or about that much; or room that ends with a lane or inside one.
+fn around_or_within(needed: &[usize], chance: &mut Chance) -> usize {
+    let all = needed.iter().sum();
+    if needed.is_empty() || !chance.one_in(3) {
+        return around(all, chance);
+    }
+    let last = chance.below(needed.len());
+    needed[..last].iter().sum::<usize>() + chance.below(needed[last] + 1)
 }
 
 fn mostly_enough(needed: usize, chance: &mut Chance) -> usize {

@@ -1,7 +1,7 @@
 //! Call number so-and-so of a run with a seed.
 
 use super::alphabet::Alphabet;
-use super::{accounts, buffers, damage, limits, rules, tapes};
+use super::{accounts, buffers, damage, heats, limits, rules, tapes};
 use crate::admission::LONGEST_TAPE;
 use crate::call::{Call, Operation};
 use crate::chance::Chance;
@@ -12,7 +12,7 @@ pub fn call(seed: u64, number: u64) -> Call {
     if let Some(call) = limits::limit_in_turn(number, chance) {
         return call.within_limits();
     }
-    let call = match chance.weighted(&[(6, 0), (12, 1), (82, 2)]) {
+    let call = match chance.weighted(&[(8, 0), (12, 1), (80, 2)]) {
         0 => limits::limit_call(chance),
         1 => accounts::show_call(chance),
         _ => ordinary_call(chance),
@@ -26,6 +26,7 @@ fn ordinary_call(chance: &mut Chance) -> Call {
         (16, Operation::Build),
         (28, Operation::Rewrite),
         (28, Operation::Account),
+        (22, Operation::Heat),
     ]);
     let alphabet = Alphabet::of(chance);
     let rules = rules::rules(&alphabet, chance);
@@ -45,6 +46,9 @@ fn ordinary_call(chance: &mut Chance) -> Call {
         if chance.one_in(100) {
             call.tape.resize(LONGEST_TAPE + chance.between(1, 3), 0);
         }
+    }
+    if operation == Operation::Heat {
+        (call.tape, call.lanes) = heats::heat(heats::count(chance), &rules, &alphabet, chance);
     }
     call.lengths = buffers::lengths(&call, chance);
     call

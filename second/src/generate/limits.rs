@@ -2,13 +2,15 @@
 
 use super::alphabet::Alphabet;
 use super::full;
+use super::heats;
 use super::tapes;
 use crate::account::WORDS_A_LINE;
 use crate::admission::LONGEST_TAPE;
 use crate::book::{HIGHEST_SYMBOL, MOST_ARCS, MOST_RULES, MOST_STATES, SYMBOLS};
-use crate::call::{Call, Lengths, Operation, LONGEST_BOOK, LONGEST_TAPE as LONGEST_SENT};
+use crate::call::{Call, Lane, Lengths, Operation, LONGEST_BOOK, LONGEST_TAPE as LONGEST_SENT};
 use crate::chance::Chance;
 use crate::draft::{self, Part, Rule};
+use crate::heat::MOST_LANES;
 use crate::house;
 use crate::record::{self, ARC, RULE, STATE};
 use crate::workspace;
@@ -22,7 +24,7 @@ pub const LIMITS: &[Limit] = &[
     ("512 or 513 arcs", 100, |chance| counted(ARC, MOST_ARCS, chance)),
     ("256 or 257 left sets", 80, left_sets),
     ("256 or 257 right sets", 80, right_sets),
-    ("eight or nine places", 150, places),
+    ("eight or nine places", 220, places),
     ("4,096 or 4,097 symbols", 60, long_tape),
     ("longest book sent", 30, long_book),
     ("longest output", 20, long_output),
@@ -30,6 +32,8 @@ pub const LIMITS: &[Limit] = &[
     ("many candidates", 10, |chance| every_candidate(1, chance)),
     ("most candidates", 1, |chance| every_candidate(MOST_RULES, chance)),
     ("house book", 120, house_tape),
+    ("ten or eleven lanes", 60, ten_lanes),
+    ("ten longest lanes", 4, longest_lanes),
 ];
 
 /// From this call on a run goes through the limits in turn, so that a run of some length surely meets each of them;
@@ -48,12 +52,15 @@ pub fn limit_call(chance: &mut Chance) -> Call {
 
 /// A call of a book with everything lent that it needs, unless a length is given otherwise.
 fn call_with(book: Vec<u8>, tape: Vec<u8>, chance: &mut Chance) -> Call {
-    let operation = chance.pick(&[Operation::Build, Operation::Rewrite, Operation::Account]);
+    let operation = chance.pick(&[Operation::Build, Operation::Rewrite, Operation::Account, Operation::Heat]);
     let mut call = Call::new(operation);
     call.book = book;
     call.fill = chance.byte();
     call.lengths.rows = workspace::ROW_BYTES + chance.below(2);
     call.lengths.sets = workspace::SETS + chance.below(2);
+    if operation == Operation::Heat {
+        call.lanes = heats::over(tape.len(), chance);
+    }
     if operation != Operation::Build {
         call.lengths.scratch = tape.len() + 1;
         call.tape = tape;
@@ -202,4 +209,29 @@ fn every_candidate(rules: usize, chance: &mut Chance) -> Call {
 fn house_tape(chance: &mut Chance) -> Call {
     let tape = tapes::tape(&house::rules(), &Alphabet::of(chance), chance);
     call_with(house::book(), tape, chance)
+}
+
+fn ten_lanes(chance: &mut Chance) -> Call {
+    let lanes = MOST_LANES + chance.below(2);
+    let mut call = Call::new(Operation::Heat);
+    call.book = house::book();
+    call.fill = chance.byte();
+    (call.tape, call.lanes) = heats::heat(lanes, &house::rules(), &Alphabet::of(chance), chance);
+    call.lengths = super::buffers::lengths(&call, chance);
+    call
+}
+
+/// Ten tapes of 4,096 symbols, and as much room as they need, or one symbol less.
+fn longest_lanes(chance: &mut Chance) -> Call {
+    let (rule, pattern) = (Rule::new(Part::any(), Part::word(&[1, 2]), Part::any(), &[3]), [1, 2, 2, 1]);
+    let mut call = Call::new(Operation::Heat);
+    call.book = draft::book(&[rule]);
+    call.tape = repeated(&pattern, MOST_LANES * LONGEST_TAPE);
+    let length = LONGEST_TAPE as u64;
+    call.lanes = (0..MOST_LANES as u64).map(|at| Lane { start: at * length, length }).collect();
+    let (rows, sets) = (workspace::ROW_BYTES, workspace::SETS);
+    let needed: usize = super::buffers::needed_by_lanes(&call).iter().sum();
+    let (out, origins) = (needed - chance.below(2), needed - chance.below(2));
+    call.lengths = Lengths { rows, sets, scratch: LONGEST_TAPE + 1, out, origins, lines: 0 };
+    call
 }

@@ -1,5 +1,5 @@
-//! Calls at random: valid books with many overlapping candidates, damaged books, tapes with bad symbols, buffers of
-//! every length, and the limits.
+//! Calls at random: valid books with many overlapping candidates, damaged books, tapes with bad symbols, lanes inside
+//! and outside their buffer, buffers of every length, and the limits.
 
 pub mod accounts;
 pub mod alphabet;
@@ -7,6 +7,7 @@ pub mod buffers;
 pub mod calls;
 pub mod damage;
 pub mod full;
+pub mod heats;
 pub mod limits;
 pub mod lines;
 pub mod parts;
