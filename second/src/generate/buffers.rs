@@ -30,7 +30,7 @@ pub fn lengths(call: &Call, chance: &mut Chance) -> Lengths {
         lengths.lines = around(needed(call), chance);
     }
     if call.operation == Operation::Heat {
-        lengths.scratch = mostly_enough(needed_scratch(call, chance), chance);
+        lengths.scratch = scratch_for_lanes(call, chance);
         let needed = needed_by_lanes(call);
         lengths.out = around_or_within(&needed, chance);
         lengths.origins = around_or_within(&needed, chance);
@@ -71,13 +71,15 @@ pub fn lane_tapes(call: &Call) -> Vec<&[u8]> {
     stretches.map(|stretch| &call.tape[stretch]).collect()
 }
 
-/// Scratch for the longest lane that needs it; now and then for another one, which leaves longer ones without.
-fn needed_scratch(call: &Call, chance: &mut Chance) -> usize {
+/// Scratch that is mostly enough for every lane; now and then just enough for one of them, or short of it by one.
+fn scratch_for_lanes(call: &Call, chance: &mut Chance) -> usize {
     let mut lengths: Vec<usize> = lane_tapes(call).iter().map(|tape| tape.len()).collect();
     lengths.retain(|length| *length <= LONGEST_TAPE);
     let longest = lengths.iter().copied().max().unwrap_or(0);
-    let length = if !lengths.is_empty() && chance.one_in(4) { chance.pick(&lengths) } else { longest };
-    length + 1
+    if lengths.is_empty() || !chance.one_in(4) {
+        return mostly_enough(longest + 1, chance);
+    }
+    chance.pick(&lengths) + chance.below(2)
 }
 
 /// Room for all lanes or about that much; or room that ends with a lane or inside one.

@@ -31,7 +31,12 @@ fn ordinary_call(chance: &mut Chance) -> Call {
     let alphabet = Alphabet::of(chance);
     let rules = rules::rules(&alphabet, chance);
     let records = draft::mixed_records(&rules, chance);
-    let damaged = if operation == Operation::Check { chance.below(10) < 8 } else { chance.one_in(7) };
+    let damaged = match operation {
+        Operation::Check => chance.below(10) < 8,
+        // So that too many lanes often meet a damaged book.
+        Operation::Heat => chance.one_in(4),
+        _ => chance.one_in(7),
+    };
     let mut call = Call::new(operation);
     call.fill = chance.weighted(&[(1, 0), (1, 255), (1, 1), (3, 170)]);
     if call.fill == 170 {

@@ -33,11 +33,12 @@ pub fn heat(count: usize, rules: &[Rule], alphabet: &Alphabet, chance: &mut Chan
 
 fn tape(rules: &[Rule], alphabet: &Alphabet, chance: &mut Chance) -> Vec<u8> {
     let mut tape = tapes::tape(rules, alphabet, chance);
-    if chance.one_in(120) {
+    if chance.one_in(80) {
         let length = chance.weighted(&[(1, LONGEST_TAPE), (4, LONGEST_TAPE + 1), (1, LONGEST_TAPE + 300)]);
         tape.resize(length, alphabet.symbol(chance));
     }
-    if chance.one_in(10) {
+    // So that 9 often meets a bad symbol.
+    if chance.one_in(if tape.len() < LONGEST_TAPE { 10 } else { 2 }) {
         tapes::spoil(&mut tape, chance);
     }
     tape
@@ -62,8 +63,7 @@ fn lane(own: Lane, buffer: u64, chance: &mut Chance) -> Lane {
     let rest = buffer - inside;
     let short = chance.below(rest.min(20) as usize + 1) as u64;
     // With this length the sum is 2^64 and something below the start.
-    let wrapping = chance.below(inside.max(1) as usize) as u64;
-    let wrapping = wrapping.wrapping_sub(inside);
+    let wrapping = (chance.below(inside.max(1) as usize) as u64).wrapping_sub(inside);
     let (start, length) = chance.weighted(&[
         (120, (start, length)),
         (16, (inside, short)),
