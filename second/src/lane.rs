@@ -1,5 +1,5 @@
 //! One lane of a heat: document 02, No. 2, "The result, origins too, is what the lanes alone would give, one after
-//! another, each with the room still left".
+//! another, each with the room still left". What wrong readings make of it is in `wrong_lane`.
 
 use std::ops::Range;
 
@@ -7,20 +7,23 @@ use crate::admission::admit;
 use crate::answer::Lent;
 use crate::book::Refusal;
 use crate::call::{Call, Lane, Lengths, Operation};
+use crate::reading::{Reading, Wrong};
 use crate::rewrite::{rewrite, Rewritten};
 use crate::sides::Sides;
 
-/// How much of the output and of the origins the lanes so far have used.
+/// How much of each buffer the lanes so far have used.
 #[derive(Clone, Copy, Default)]
 pub struct Used {
-    out: usize,
-    origins: usize,
+    pub out: usize,
+    pub origins: usize,
+    /// 0 but for a wrong reading: each lane is lent the whole scratch.
+    pub scratch: usize,
 }
 
 /// A lane's turn in a heat whose book is built.
 pub struct Turn<'a> {
     pub call: &'a Call,
-    pub lane: Lane,
+    pub at: usize,
     pub used: Used,
     pub sides: &'a Sides<'a>,
 }
@@ -33,43 +36,66 @@ pub fn stretch(lane: Lane, buffer: usize) -> Option<Range<usize>> {
 }
 
 impl Turn<'_> {
+    pub fn lane(&self) -> Lane {
+        self.call.lanes[self.at]
+    }
+
+    pub fn reading(&self) -> Reading {
+        self.sides.agreement.reading
+    }
+
     /// What the lane gets: 17, or what REWRITE gives for its tape alone.
     pub fn result(&self, lent: &mut Lent) -> Result<Rewritten, Refusal> {
         // "17 (its stretch leaves the common buffer)"
-        let stretch = stretch(self.lane, self.call.tape.len()).ok_or(Refusal { reply: 17, place: 0 })?;
-        // The lane is lent what is left; what stands in front of it is put back afterwards.
+        let stretch = self.stretch_read().ok_or(Refusal { reply: 17, place: 0 });
+        let result = stretch.and_then(|stretch| self.with_rest_lent(stretch, lent));
+        result.or_else(|refusal| self.instead(refusal))
+    }
+
+    /// The lane is lent what is left; what stands in front of that is put back afterwards.
+    fn with_rest_lent(&self, stretch: Range<usize>, lent: &mut Lent) -> Result<Rewritten, Refusal> {
         let out: Vec<u8> = lent.out.drain(..self.used.out).collect();
         let origins: Vec<u16> = lent.origins.drain(..self.used.origins).collect();
-        let result = self.rewritten(&self.alone(stretch), lent);
+        let scratch: Vec<u8> = lent.scratch.drain(..self.used.scratch).collect();
+        let result = self.rewritten(stretch.clone(), lent);
+        self.write_wrongly(stretch, result, lent);
         lent.out.splice(0..0, out);
         lent.origins.splice(0..0, origins);
+        lent.scratch.splice(0..0, scratch);
         result
+    }
+
+    fn rewritten(&self, stretch: Range<usize>, lent: &mut Lent) -> Result<Rewritten, Refusal> {
+        let (alone, reading) = (self.alone(stretch.clone()), self.reading_of_rewrite());
+        self.test_buffer()?;
+        admit(&alone, self.sides, lent, reading)?;
+        rewrite(&alone, self.sides, &self.stretches(stretch), lent, reading)
     }
 
     /// The lane's own call, "with the room still left".
     fn alone(&self, stretch: Range<usize>) -> Call {
+        let given = self.call.lengths;
+        let lengths = Lengths {
+            out: given.out - self.used.out,
+            origins: given.origins - self.used.origins,
+            scratch: given.scratch - self.used.scratch,
+            ..given
+        };
         let tape = self.call.tape[stretch].to_vec();
-        let (out, origins) = (self.call.lengths.out - self.used.out, self.call.lengths.origins - self.used.origins);
-        let lengths = Lengths { out, origins, ..self.call.lengths };
         Call { operation: Operation::Rewrite, tape, lengths, lanes: Vec::new(), ..self.call.clone() }
-    }
-
-    fn rewritten(&self, alone: &Call, lent: &mut Lent) -> Result<Rewritten, Refusal> {
-        let agreement = self.sides.agreement;
-        admit(alone, self.sides, lent, agreement.reading)?;
-        let stretches = agreement.stretches(self.sides.book, &alone.tape);
-        rewrite(alone, self.sides, &stretches, lent, agreement.reading)
     }
 
     /// "Each lane's output goes into the common output right after that of the lane before, and a refused lane uses no
     /// room."
     pub fn used_after(&self, result: Result<Rewritten, Refusal>) -> Used {
-        let length = result.map_or(0, |rewritten| rewritten.length);
-        // Only wrong readings use more than there is.
+        let (reading, given) = (self.reading(), self.call.lengths);
+        let length = result.map_or_else(|refusal| self.used_by_refused(refusal), |rewritten| rewritten.length);
+        // Only wrong readings use more than there is, or begin at the front again.
         let used = |used: usize, given: usize| (used + length).min(given);
         Used {
-            out: used(self.used.out, self.call.lengths.out),
-            origins: used(self.used.origins, self.call.lengths.origins),
+            out: reading.value(used(self.used.out, given.out), Wrong::SymbolsAtFront, 0),
+            origins: reading.value(used(self.used.origins, given.origins), Wrong::OriginsAtFront, 0),
+            scratch: self.scratch_used(result),
         }
     }
 }

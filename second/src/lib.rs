@@ -47,3 +47,4 @@ pub mod stretches;
 pub mod taken;
 pub mod tally;
 pub mod workspace;
+pub mod wrong_lane;

@@ -1,4 +1,4 @@
-//! How document 01, with No. 1 of document 02, is read: truly, or with one wrong reading put in.
+//! How document 01, with No. 1 and No. 2 of document 02, is read: truly, or with one wrong reading put in.
 //!
 //! A check that cannot fail is a defect, so every wrong reading below can be put into the reference
 //! (`--wrong NAME`), and the tests show that the fixed-seed run catches each of them.
@@ -164,6 +164,68 @@ wrong_readings! {
     RoomInFives, "room-in-fives", "15 of ACCOUNT is placed at five words a candidate.";
     ShowByFive, "show-by-five", "SHOW still reads lines of five words.";
     SixthWordMissing, "sixth-word-missing", "SHOW reads a line whose sixth word is missing.";
+
+    // All lanes of a heat: document 02, No. 2. First the whole call.
+    ElevenLanes, "eleven-lanes", "Eleven lanes are accepted.";
+    NineLanes, "nine-lanes", "Ten lanes are refused.";
+    LanesAfterBook, "lanes-after-book", "16 is tested after the book.";
+    LanesAfterBuild, "lanes-after-build", "16 is tested after 14, when the workspace is built.";
+    SixteenPlace, "sixteen-place", "16 is placed at the number of lanes.";
+    SixteenInRecords, "sixteen-in-records", "16 is written into the lane records too.";
+    RecordsCleared, "records-cleared", "A refusal of the whole call clears what the lane records get back.";
+    RecordsRefused, "records-refused", "A refusal of the whole call is written into the lane records too.";
+    BuildRefusesLanes, "build-refuses-lanes", "11, 13 and 14 are replies of the lanes, and the call replies 0.";
+    EmptyListAccepted, "empty-list-accepted", "An empty list is accepted whatever the book.";
+    EmptyListUnbuilt, "empty-list-unbuilt", "An empty list leaves the workspace alone.";
+    NoLaneClears, "no-lane-clears", "If no lane is accepted the workspace parts are all 0.";
+    NoLaneKeeps, "no-lane-keeps", "If no lane is accepted the workspace is left alone.";
+    CallRepliesForLane, "call-replies-for-lane", "The call replies with the first refusal of a lane.";
+    RefusalEndsHeat, "refusal-ends-heat", "The lanes after a refused one are left alone.";
+    LanesByStart, "lanes-by-start", "The lanes go in the order of their starts.";
+    RefusedLaneKeepsCounts, "refused-lane-keeps-counts", "A refused lane keeps its old output length and stretches.";
+    AcceptedLaneKeepsPlace, "accepted-lane-keeps-place", "An accepted lane keeps its old place.";
+    LaneLengthTotal, "lane-length-total", "A lane's output length counts the lanes before it too.";
+    StartOfOutput, "start-of-output", "An accepted lane's start becomes that of its output.";
+
+    // A lane's stretch and the order of its replies.
+    LaneSumWraps, "lane-sum-wraps", "Start and length are added with wrap-around.";
+    LaneOf32Bits, "lane-of-32-bits", "Start and length count up to 32 bits alone.";
+    LaneCut, "lane-cut", "A lane that leaves the common buffer is cut at its end.";
+    EmptyLaneAtEnd, "empty-lane-at-end", "A lane of length 0 at the buffer's very end is outside it.";
+    EmptyLaneAnywhere, "empty-lane-anywhere", "A lane of length 0 is inside the buffer wherever it starts.";
+    OverlapRefused, "overlap-refused", "A lane that overlaps an earlier one is refused with 17.";
+    SeventeenPlace, "seventeen-place", "17 is placed at the lane's start.";
+    LengthBeforeStretch, "length-before-stretch", "9 of a lane is tested before 17.";
+    LaneSymbolBeforeLength, "lane-symbol-before-length", "10 of a lane is tested before 9.";
+    LaneScratchBeforeSymbol, "lane-scratch-before-symbol", "12 of a lane is tested before 10.";
+    LaneRoomBeforeScratch, "lane-room-before-scratch", "15 of a lane is tested before 12.";
+    LengthOfBuffer, "length-of-buffer", "9 of a lane looks at the length of the common buffer.";
+    SymbolsOfBuffer, "symbols-of-buffer", "10 of a lane looks at all symbols of the common buffer.";
+    ScratchOfBuffer, "scratch-of-buffer", "12 of a lane asks for scratch for the common buffer.";
+    LanePlaceInBuffer, "lane-place-in-buffer", "10 of a lane is placed in the common buffer.";
+    LanePlaceTotal, "lane-place-total", "15 of a lane is placed at the symbols of all lanes so far.";
+    EmptyLaneNeedsNone, "empty-lane-needs-none", "A lane of length 0 needs no scratch.";
+
+    // A lane's room, output, origins and scratch.
+    RefusedLaneUsesNeeded, "refused-lane-uses-needed", "A lane refused with 15 uses the room that it needs.";
+    ShortScratchUsesNeeded, "short-scratch-uses-needed", "A lane refused with 12 uses the room that it needs.";
+    RefusedLaneUsesTape, "refused-lane-uses-tape", "A refused lane uses as much room as its tape is long.";
+    LaneRoomOfOut, "lane-room-of-out", "The room still left is that of the output alone.";
+    LaneRoomOfOrigins, "lane-room-of-origins", "The room still left is that of the origins alone.";
+    SymbolsAtFront, "symbols-at-front", "Each lane's symbols go to the front of the output.";
+    OriginsAtFront, "origins-at-front", "Each lane's origins go to the front of the origins.";
+    OriginsInBuffer, "origins-in-buffer", "Origins are positions in the common buffer.";
+    OriginsGoOn, "origins-go-on", "Origins count on from the lane before.";
+    LeftFromBefore, "left-from-before", "A left context is looked for before the lane's start too.";
+    RightFromAfter, "right-from-after", "A right context is looked for after the lane's end too.";
+    FirstScratchKept, "first-scratch-kept", "The scratch ends as the first lane leaves it.";
+    LastScratchAlone, "last-scratch-alone", "The scratch ends as the last lane alone would leave it.";
+    ScratchGoesOn, "scratch-goes-on", "Each lane's scratch stands after that of the lane before.";
+    ScratchFromBuffer, "scratch-from-buffer", "The scratch holds the right sets of the common buffer.";
+    LongLaneWrites, "long-lane-writes", "A lane refused with 9 has written its scratch.";
+    BadLaneWrites, "bad-lane-writes", "A lane refused with 10 has written its scratch.";
+    ShortScratchWrites, "short-scratch-writes", "A lane refused with 12 has written its scratch.";
+    LaneRoomKeepsScratch, "lane-room-keeps-scratch", "A lane refused with 15 leaves the scratch unchanged.";
 
     // The program.
     CapitalsRead, "capitals-read", "A to F are hex digits too.";

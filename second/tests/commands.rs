@@ -3,7 +3,7 @@
 use std::process::{Command, Output};
 
 use second::answer::Answer;
-use second::call::{Call, Lane, Operation, Request};
+use second::call::{Call, Lane, Lengths, Operation, Request};
 use second::generate::calls::call;
 use second::operations::answer;
 use second::reading::Reading;
@@ -38,6 +38,22 @@ fn requests_and_answers_are_read_as_they_were_written() {
     }
 }
 
+/// Byte by byte, since reading and writing could share a mistake.
+#[test]
+fn a_heat_is_sent_and_answered_with_its_lanes_last() {
+    let mut heat = Call::new(Operation::Heat);
+    (heat.fill, heat.book, heat.tape) = (0x5a, vec![4], vec![7, 8, 9]);
+    heat.lengths = Lengths { rows: 1, sets: 1, scratch: 3, out: 2, origins: 4, lines: 0 };
+    heat.lanes = vec![Lane { start: 1, length: 2 }, Lane { start: 1 << 56, length: 0 }];
+    let lengths = [1, 3, 1, 1, 3, 2, 4, 2, 0].map(u32::to_le_bytes).concat();
+    let bounds = [[1u64, 2], [1 << 56, 0]].map(|lane| lane.map(u64::to_le_bytes).concat());
+    assert_eq!(heat.to_bytes(), [&[6, 0x5a], &lengths[..], &[4, 7, 8, 9], &bounds.concat()].concat());
+    // Its book is refused with 4, so that everything lent is as it was: rows, sets, scratch, out, two bytes an origin.
+    let refused = [&[6, 4], &[0; 8 + 4 * 8][..], &[0x5a; 1 + 8 + 3 + 2 + 2 * 4]].concat();
+    let lanes = bounds.map(|bounds| [&bounds[..], &[0x5a; 8 + 8 + 1 + 8]].concat());
+    assert_eq!(answer(&heat, Reading::TRUE).to_bytes(), [refused, lanes.concat()].concat());
+}
+
 #[test]
 fn bad_requests_are_refused() {
     let refused = |bytes: &[u8]| matches!(Call::read(&mut &bytes[..]), Ok(Request::Refused));
@@ -67,7 +83,12 @@ fn check_agrees_with_itself() {
 
 #[test]
 fn check_finds_and_repeats_a_small_case() {
-    let door = format!("{SECOND} serve --wrong longest-focus-first");
+    finds_and_repeats("longest-focus-first");
+    finds_and_repeats("refused-lane-uses-needed");
+}
+
+fn finds_and_repeats(wrong: &str) {
+    let door = format!("{SECOND} serve --wrong {wrong}");
     let output = second(&["check", "5", "600", "--door", &door]);
     assert!(!output.status.success());
     assert!(last_line(&output).ends_with(" passed, 1 failed"));
