@@ -1,4 +1,5 @@
--- Rows and sets as BUILD left them: one build is as good as ten. The tests of a tape and its backward pass leave what `readyDef` says; and what REWRITE answers and writes does not look at what stood in the workspace. Assumes nothing.
+-- Rows and sets as BUILD left them: one build is as good as ten. The tests of a tape and its backward pass leave what `readyDef` says; and what
+-- REWRITE answers and writes does not look at what stood in the workspace. Assumes nothing.
 use Prim.Native.Nat.{ℕ, _+_, _≤_, _<_}
 use mathlib.Core.Path.{_≡_, refl, sym, ap, ap₂, _∙_}
 use mathlib.Core.List.{List, [], _++_}
