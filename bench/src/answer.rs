@@ -36,7 +36,26 @@ pub struct Accounted {
     pub candidates: usize,
 }
 
-/// The numbers of document 01 that lengths of buffers follow from.
+/// One lane of a heat: start and length are the caller's, the rest it gets back.
+#[repr(C)]
+#[derive(Clone, Copy, Debug, PartialEq)]
+pub struct Lane {
+    pub start: usize,
+    pub length: usize,
+    pub out: usize,
+    pub taken: usize,
+    pub reply: u8,
+    pub place: usize,
+}
+
+#[repr(C)]
+#[derive(Clone, Copy, Debug, PartialEq)]
+pub struct Heated {
+    pub reply: u8,
+    pub place: usize,
+}
+
+/// The numbers of the documents that lengths of buffers follow from.
 pub const SYMBOLS: usize = 16;
 pub const RULES: usize = 16;
 pub const STATES: usize = 64;
@@ -48,3 +67,4 @@ pub const PAIRS: usize = SYMBOLS * MOST_SETS;
 pub const ROW_BYTES: usize = 2 * PAIRS;
 pub const SET_WORDS: usize = 2 * MOST_SETS;
 pub const LINE: usize = 6;
+pub const LANES: usize = 10;

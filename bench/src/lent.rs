@@ -3,7 +3,7 @@
 use crate::answer::{LINE, ROW_BYTES, SET_WORDS, TAPE, WORD};
 
 /// What stands in every element before a call: a contestant that leaves a byte unwritten shows.
-const OLD: u8 = 77;
+pub const OLD: u8 = 77;
 
 #[derive(PartialEq)]
 pub struct Lent {
@@ -26,5 +26,11 @@ impl Lent {
             origins: vec![OLD as u16; WORD * TAPE],
             lines: vec![OLD as u16; LINE * lines],
         }
+    }
+
+    /// Enough for every heat of that many lanes.
+    pub fn for_lanes(lanes: usize) -> Lent {
+        let room = lanes * WORD * TAPE;
+        Lent { out: vec![OLD; room], origins: vec![OLD as u16; room], ..Lent::for_lines(0) }
     }
 }

@@ -4,6 +4,7 @@
 mod agree;
 mod clock;
 mod foma;
+mod heats;
 mod lent;
 mod measure;
 mod pcre2;
@@ -18,9 +19,13 @@ use bench::{answer, books, chance, tapes};
 use chance::Chance;
 use clock::Pace;
 use measure::Peers;
+use table::Section;
 
 const DAMAGED: usize = 4000;
 const SHORT: usize = 64;
+
+/// The lengths of a heat's lanes.
+const LANE: [usize; 2] = [TAPE, SHORT];
 
 /// The lengths of the tapes on which every stretch is a candidate of every rule, and of that for the sets that never come again.
 const HOSTILE: [usize; 2] = [256, 1024];
@@ -34,6 +39,7 @@ fn main() {
     agree(&cases, chance);
     introduce();
     rewrite(&cases, pace);
+    heat(&cases, pace);
     build(&cases, pace);
     account(&cases, pace, short);
 }
@@ -55,13 +61,31 @@ fn agree(cases: &Cases, chance: &mut Chance) {
     agree::on_whole(&cases.every, &cases.random[0][..HOSTILE[0]]);
     agree::on_whole(&cases.alike, &cases.random[0][..ALIKE]);
     agree::never_alike(&cases.alike, &cases.random[0]);
+    agree_on_heats(cases);
     agree::on_damaged(DAMAGED, chance);
+}
+
+fn agree_on_heats(cases: &Cases) {
+    for (_, book, tapes) in heats(cases) {
+        for heat in LANE.iter().flat_map(|length| heats::of_pieces(tapes, *length)) {
+            agree::on_heat(book, &heat);
+        }
+        agree::on_refused(book, tapes);
+    }
+    for book in [&cases.largest, &cases.every, &cases.alike] {
+        heats::of_pieces(&cases.random[..1], SHORT).iter().for_each(|heat| agree::on_heat(book, heat));
+    }
+    for tapes in [&cases.one_stretch, &cases.no_candidate] {
+        heats::of_pieces(tapes, TAPE).iter().for_each(|heat| agree::on_heat(&cases.house, heat));
+        agree::on_refused(&cases.house, tapes);
+    }
 }
 
 fn introduce() {
     let made = std::env::var("DECK_MADE").unwrap_or_else(|_| "a library that bench/run did not build".to_string());
     println!("proved     {made}; this processor: {}", std::env::consts::ARCH);
     println!("Rust       plain Rust of the same two passes, {}", env!("RUST_COMPILER"));
+    println!("ten calls  of the proved library's REWRITE, one for each lane of a heat");
     println!("two walks  the limit: the right rows backward into scratch, the left rows forward, nothing else");
     println!("foma       library {}, compile + apply in the whole call, apply in the tape part", foma::version());
     println!("PCRE2      {}, compile + JIT + match in the whole call, match in the tape part", pcre2::version());
@@ -77,7 +101,8 @@ fn rewrite(cases: &Cases, pace: Pace) {
     let turn = Peers { foma: true, pcre2: Some(pcre2::TURN) };
     let none = Peers::default();
     let short = vec![cases.pool[0][..SHORT].to_vec()];
-    table::heading("REWRITE, tapes of 4,096 symbols where no other length is said: million symbols per second");
+    let title = "REWRITE, tapes of 4,096 symbols where no other length is said: million symbols per second";
+    let section = Section::begin(title, table::PEERS);
     for (name, book, tapes, peers) in [
         ("house book, pool-like tapes", &cases.house, &cases.pool, house),
         ("turn rule alone, pool-like tapes", &cases.turn, &cases.pool, turn),
@@ -87,15 +112,37 @@ fn rewrite(cases: &Cases, pace: Pace) {
         ("house book, one long stretch", &cases.house, &cases.one_stretch, house),
         ("house book, no candidate", &cases.house, &cases.no_candidate, house),
     ] {
-        table::print(&measure::rewrite(name, book, tapes, peers, pace));
+        section.print(&measure::rewrite(name, book, tapes, peers, pace));
+    }
+}
+
+/// A name, its book, and the tapes that lanes are cut from.
+type Swum<'a> = (&'a str, &'a [u8], &'a [Vec<u8>]);
+
+fn heats(cases: &Cases) -> [Swum<'_>; 4] {
+    [
+        ("house book, pool-like tapes", &cases.house, &cases.pool),
+        ("turn rule alone, pool-like tapes", &cases.turn, &cases.pool),
+        ("dense book, random tapes", &cases.dense, &cases.random),
+        ("256 sets a side, random tapes", &cases.full, &cases.random),
+    ]
+}
+
+fn heat(cases: &Cases, pace: Pace) {
+    let section = Section::begin("HEAT, ten lanes in one call: microseconds a heat", table::CALLS);
+    for (name, book, tapes) in heats(cases) {
+        for length in LANE {
+            let name = format!("{name}, lanes of {length} symbols");
+            section.print(&[measure::heat(&name, book, &heats::of_pieces(tapes, length), pace)]);
+        }
     }
 }
 
 fn build(cases: &Cases, pace: Pace) {
     let house = Peers { foma: false, pcre2: Some(pcre2::HOUSE) };
     let turn = Peers { foma: true, pcre2: Some(pcre2::TURN) };
-    table::heading("CHECK and BUILD: microseconds a call");
-    table::print(&[
+    let section = Section::begin("CHECK and BUILD: microseconds a call", table::PEERS);
+    section.print(&[
         measure::check("CHECK, house book", &cases.house, pace),
         measure::check("CHECK, largest book", &cases.largest, pace),
         measure::build("BUILD, house book", &cases.house, house, pace),
@@ -107,19 +154,19 @@ fn build(cases: &Cases, pace: Pace) {
 }
 
 fn account(cases: &Cases, pace: Pace, short: bool) {
-    table::heading("ACCOUNT: microseconds a call, unless the row says otherwise");
+    let section = Section::begin("ACCOUNT: microseconds a call, unless the row says otherwise", table::PEERS);
     let front = |symbols| &cases.random[0][..symbols];
-    table::print(&[measure::account("house book, pool-like", &cases.house, &cases.pool, pace)]);
-    table::print(&measure::hostile("no two focus sets alike", &cases.alike, 1, front(ALIKE), pace));
+    section.print(&[measure::account("house book, pool-like", &cases.house, &cases.pool, pace)]);
+    section.print(&measure::hostile("no two focus sets alike", &cases.alike, 1, front(ALIKE), pace));
     for symbols in HOSTILE {
-        table::print(&measure::hostile("every stretch, 16 rules", &cases.every, RULES, front(symbols), pace));
+        section.print(&measure::hostile("every stretch, 16 rules", &cases.every, RULES, front(symbols), pace));
     }
     if short {
         println!("every stretch, 16 rules, {TAPE} symbols: not in a short run");
     } else if memory() < 4 << 30 {
         println!("every stretch, 16 rules, {TAPE} symbols: needs 1.6 GB for its lines, left out on this machine");
     } else {
-        table::print(&measure::longest_account("every stretch, 16 rules, once", &cases.every, &cases.random[0]));
+        section.print(&measure::longest_account("every stretch, 16 rules, once", &cases.every, &cases.random[0]));
     }
 }
 

@@ -1,7 +1,8 @@
 //! What each row of the table measures.
 
-use crate::answer::{LINE, RULES, TAPE};
+use crate::answer::{LANES, LINE, RULES, TAPE};
 use crate::clock::{once, Contest, Pace};
+use crate::heats::Heat;
 use crate::lent::Lent;
 use crate::pcre2::Pattern;
 use crate::table::{Row, Unit};
@@ -9,7 +10,7 @@ use crate::walks::two_walks;
 use crate::{foma, pcre2, plain, proved};
 use std::cell::Cell;
 
-/// The tapes one after the other, from the first again after the last.
+/// The tapes, or the heats, one after the other, from the first again after the last.
 struct Turns<'a, T> {
     all: &'a [T],
     at: Cell<usize>,
@@ -98,6 +99,19 @@ pub fn rewrite(name: &str, book: &[u8], tapes: &[Vec<u8>], peers: Peers, pace: P
             .foma(times.foma.map(apply))
             .pcre2(times.pcre2.map(apply)),
     ]
+}
+
+/// HEAT beside a REWRITE for each of its lanes.
+pub fn heat(name: &str, book: &[u8], heats: &[Heat], pace: Pace) -> Row {
+    let mut lent: [Lent; 3] = std::array::from_fn(|_| Lent::for_lanes(LANES));
+    let [one, two, three] = &mut lent;
+    let turns: [_; 3] = std::array::from_fn(|_| Turns::of(heats));
+    let mut contest = Contest::default();
+    contest.enter(|| turns[0].next().run(|tapes, lanes| proved::heat(book, tapes, lanes, one)));
+    contest.enter(|| turns[1].next().run(|tapes, lanes| plain::heat(book, tapes, lanes, two)));
+    contest.enter(|| turns[2].next().run(|tapes, lanes| proved::rewrites(book, tapes, lanes, three)));
+    let times = contest.run(pace);
+    Row::new(name, Unit::Micros, times[0]).plain(times[1]).calls(times[2])
 }
 
 pub fn check(name: &str, book: &[u8], pace: Pace) -> Row {

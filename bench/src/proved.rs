@@ -1,7 +1,9 @@
 //! The proved library, through its C face. An answer of more than two words goes where a pointer in front of the arguments says, and the
-//! pointer comes back: that is how C hands it over on x86-64. Said outright, it holds on every processor that `native-lib` compiles for.
+//! pointer comes back: that is how C hands it over on x86-64. Said outright, it holds on every processor that `native-lib` compiles for. An
+//! answer of two words, as HEAT's is, comes back in registers on all of them.
 
-use crate::answer::{Accounted, Built, Checked, Rewritten};
+use crate::answer::{Accounted, Built, Checked, Heated, Lane, Rewritten};
+use crate::heats::in_turn;
 use crate::lent::Lent;
 use std::mem::MaybeUninit;
 
@@ -49,6 +51,24 @@ extern "C" {
         lines: *mut u16,
         lines_length: usize,
     ) -> *mut Accounted;
+    fn qafrendi_heat(
+        book: *const u8,
+        book_length: usize,
+        tapes: *const u8,
+        tapes_length: usize,
+        lanes: *mut Lane,
+        lanes_length: usize,
+        rows: *mut u8,
+        rows_length: usize,
+        sets: *mut u64,
+        sets_length: usize,
+        scratch: *mut u8,
+        scratch_length: usize,
+        out: *mut u8,
+        out_length: usize,
+        origins: *mut u16,
+        origins_length: usize,
+    ) -> Heated;
 }
 
 // Each buffer is a slice of its own, hence not null, aligned, as long as said, and apart from the others: what the header asks for.
@@ -72,7 +92,13 @@ pub fn build(book: &[u8], lent: &mut Lent) -> Built {
 }
 
 pub fn rewrite(book: &[u8], tape: &[u8], lent: &mut Lent) -> Rewritten {
+    rewrite_after(0, book, tape, lent)
+}
+
+/// REWRITE into the outputs from `used` on.
+fn rewrite_after(used: usize, book: &[u8], tape: &[u8], lent: &mut Lent) -> Rewritten {
     let Lent { rows, sets, scratch, out, origins, .. } = lent;
+    let (out, origins) = (&mut out[used..], &mut origins[used..]);
     answer(|to| unsafe {
         qafrendi_rewrite(
             to,
@@ -113,4 +139,33 @@ pub fn account(book: &[u8], tape: &[u8], lent: &mut Lent) -> Accounted {
             lines.len(),
         )
     })
+}
+
+pub fn heat(book: &[u8], tapes: &[u8], lanes: &mut [Lane], lent: &mut Lent) -> Heated {
+    let Lent { rows, sets, scratch, out, origins, .. } = lent;
+    unsafe {
+        qafrendi_heat(
+            book.as_ptr(),
+            book.len(),
+            tapes.as_ptr(),
+            tapes.len(),
+            lanes.as_mut_ptr(),
+            lanes.len(),
+            rows.as_mut_ptr(),
+            rows.len(),
+            sets.as_mut_ptr(),
+            sets.len(),
+            scratch.as_mut_ptr(),
+            scratch.len(),
+            out.as_mut_ptr(),
+            out.len(),
+            origins.as_mut_ptr(),
+            origins.len(),
+        )
+    }
+}
+
+/// What HEAT is in place of: a REWRITE for each lane, one after another, each with the room still left.
+pub fn rewrites(book: &[u8], tapes: &[u8], lanes: &mut [Lane], lent: &mut Lent) {
+    in_turn(tapes, lanes, |tape, used| rewrite_after(used, book, tape, lent));
 }

@@ -6,10 +6,21 @@ pub struct Row {
     pub unit: Unit,
     pub proved: f64,
     pub plain: Option<f64>,
+    pub calls: Option<f64>,
     pub walks: Option<f64>,
     pub foma: Option<f64>,
     pub pcre2: Option<f64>,
 }
+
+/// A peer's column: its heading, and its time in a row.
+type Column = (&'static str, fn(&Row) -> Option<f64>);
+
+const RUST: Column = ("Rust", |row| row.plain);
+
+/// The columns of HEAT, and of every other section.
+pub const CALLS: &[Column] = &[RUST, ("ten calls", |row| row.calls)];
+pub const PEERS: &[Column] =
+    &[RUST, ("two walks", |row| row.walks), ("foma", |row| row.foma), ("PCRE2", |row| row.pcre2)];
 
 /// For a difference of two times that came out below 0.
 const UNCLEAR: &str = "?";
@@ -28,11 +39,15 @@ pub enum Unit {
 
 impl Row {
     pub fn new(name: impl Into<String>, unit: Unit, proved: f64) -> Row {
-        Row { name: name.into(), unit, proved, plain: None, walks: None, foma: None, pcre2: None }
+        Row { name: name.into(), unit, proved, plain: None, calls: None, walks: None, foma: None, pcre2: None }
     }
 
     pub fn plain(self, time: f64) -> Row {
         Row { plain: Some(time), ..self }
+    }
+
+    pub fn calls(self, time: f64) -> Row {
+        Row { calls: Some(time), ..self }
     }
 
     pub fn walks(self, time: f64) -> Row {
@@ -55,10 +70,10 @@ impl Row {
         }
     }
 
-    fn print(&self) {
+    fn print(&self, columns: &[Column]) {
         print!("{:<64}{:>9}", self.name, self.unit.show(self.proved));
-        for time in [self.plain, self.walks, self.foma, self.pcre2] {
-            match time {
+        for (_, time) in columns {
+            match time(self) {
                 Some(time) => print!("{:>10} {:>8}", self.unit.show(time), self.ratio(time)),
                 None => print!("{:>10} {:>8}", "-", ""),
             }
@@ -87,14 +102,18 @@ fn digits(number: f64) -> String {
     format!("{number:.*}", places.clamp(0.0, 7.0) as usize)
 }
 
-pub fn heading(title: &str) {
-    println!("\n{title}");
-    println!(
-        "{:<64}{:>9}{:>10} {:>8}{:>10} {:>8}{:>10} {:>8}{:>10} {:>8}",
-        "", "proved", "Rust", "", "two walks", "", "foma", "", "PCRE2", ""
-    );
-}
+/// A part of the table, with the columns behind that of the proved library.
+pub struct Section(&'static [Column]);
 
-pub fn print(rows: &[Row]) {
-    rows.iter().for_each(Row::print);
+impl Section {
+    pub fn begin(title: &str, columns: &'static [Column]) -> Section {
+        print!("\n{title}\n{:<64}{:>9}", "", "proved");
+        columns.iter().for_each(|(name, _)| print!("{name:>10} {:>8}", ""));
+        println!();
+        Section(columns)
+    }
+
+    pub fn print(&self, rows: &[Row]) {
+        rows.iter().for_each(|row| row.print(self.0));
+    }
 }

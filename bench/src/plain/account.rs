@@ -1,13 +1,13 @@
 //! ACCOUNT: counted, then written, so that a short account is left as it was.
 
-use super::Ready;
+use super::{Ready, Refusal};
 use crate::answer::LINE;
 
-/// The number of candidates, or the words needed.
-pub fn list(ready: &Ready, lines: &mut [u16]) -> Result<usize, usize> {
+/// The number of candidates, or 15 with the words needed.
+pub fn list(ready: &Ready, lines: &mut [u16]) -> Result<usize, Refusal> {
     let candidates = count(ready);
     if lines.len() < LINE * candidates {
-        return Err(LINE * candidates);
+        return Err((15, LINE * candidates));
     }
     write(ready, lines);
     Ok(candidates)

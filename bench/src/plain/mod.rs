@@ -3,60 +3,53 @@
 
 mod account;
 mod check;
+mod heat;
 mod numbering;
 mod outline;
 mod passes;
+mod refusals;
 mod stepping;
 mod walk;
 
-use crate::answer::{Accounted, Built, Rewritten, MOST_SETS, PAIRS, ROW_BYTES, SET_WORDS, SYMBOLS, TAPE};
+use crate::answer::{Accounted, Built, Rewritten, MOST_SETS, PAIRS, ROW_BYTES, SYMBOLS};
 use crate::lent::Lent;
 use outline::Outline;
 
 pub use check::check;
+pub use heat::heat;
 
 /// A reply with its place.
 type Refusal = (u8, usize);
 
 pub fn build(book: &[u8], lent: &mut Lent) -> Built {
-    let checked = check(book);
-    let refused = |(reply, place)| Built { reply, place, left: 0, right: 0 };
-    if checked.reply != 0 {
-        return refused((checked.reply, checked.place));
-    }
-    if lent.rows.len() < ROW_BYTES || lent.sets.len() < SET_WORDS {
-        return refused((11, 0));
-    }
-    match numbering::number_both(book, &Outline::of(book), &mut lent.rows, &mut lent.sets) {
-        Ok((left, right)) => Built { reply: 0, place: 0, left, right },
-        Err(reply) => refused((reply, 0)),
+    match make_sets(book, &mut lent.rows, &mut lent.sets) {
+        Ok((_, left, right)) => Built { reply: 0, place: 0, left, right },
+        Err((reply, place)) => Built { reply, place, left: 0, right: 0 },
     }
 }
 
 pub fn rewrite(book: &[u8], tape: &[u8], lent: &mut Lent) -> Rewritten {
     let Lent { rows, sets, scratch, out, origins, .. } = lent;
-    let refused = |(reply, place)| Rewritten { reply, place, length: 0, taken: 0 };
-    match make_ready(book, tape, rows, sets, scratch) {
-        Err(refusal) => refused(refusal),
-        Ok(outline) => {
-            let ready = Ready { book, outline: &outline, tape, rows, sets, scratch };
-            match passes::finish(&ready, out, origins) {
-                Ok((length, taken)) => Rewritten { reply: 0, place: 0, length, taken },
-                Err(needed) => refused((15, needed)),
-            }
-        }
+    rewritten(make_ready(book, tape, rows, sets, scratch).and_then(|outline| {
+        passes::finish(&Ready { book, outline: &outline, tape, rows, sets, scratch }, out, origins)
+    }))
+}
+
+/// The answer of REWRITE, by the output's length and the stretches taken.
+fn rewritten(finished: Result<(usize, usize), Refusal>) -> Rewritten {
+    match finished {
+        Ok((length, taken)) => Rewritten { reply: 0, place: 0, length, taken },
+        Err((reply, place)) => Rewritten { reply, place, length: 0, taken: 0 },
     }
 }
 
 pub fn account(book: &[u8], tape: &[u8], lent: &mut Lent) -> Accounted {
     let Lent { rows, sets, scratch, lines, .. } = lent;
-    let refused = |(reply, place)| Accounted { reply, place, candidates: 0 };
-    match make_ready(book, tape, rows, sets, scratch) {
-        Err(refusal) => refused(refusal),
-        Ok(outline) => match account::list(&Ready { book, outline: &outline, tape, rows, sets, scratch }, lines) {
-            Ok(candidates) => Accounted { reply: 0, place: 0, candidates },
-            Err(needed) => refused((15, needed)),
-        },
+    let listed = make_ready(book, tape, rows, sets, scratch)
+        .and_then(|outline| account::list(&Ready { book, outline: &outline, tape, rows, sets, scratch }, lines));
+    match listed {
+        Ok(candidates) => Accounted { reply: 0, place: 0, candidates },
+        Err((reply, place)) => Accounted { reply, place, candidates: 0 },
     }
 }
 
@@ -91,6 +84,15 @@ impl Ready<'_> {
     }
 }
 
+/// Check, workspace, build: the outline, and how many sets each side has.
+fn make_sets(book: &[u8], rows: &mut [u8], sets: &mut [u64]) -> Result<(Outline, usize, usize), Refusal> {
+    refusals::of_book(book)?;
+    refusals::of_workspace(rows, sets)?;
+    let outline = Outline::of(book);
+    let (left, right) = numbering::number_both(book, &outline, rows, sets)?;
+    Ok((outline, left, right))
+}
+
 /// Check, tape, workspace, scratch, build, backward pass.
 fn make_ready(
     book: &[u8],
@@ -99,29 +101,18 @@ fn make_ready(
     sets: &mut [u64],
     scratch: &mut [u8],
 ) -> Result<Outline, Refusal> {
-    let checked = check(book);
-    if checked.reply != 0 {
-        return Err((checked.reply, checked.place));
-    }
-    if tape.len() > TAPE {
-        return Err((9, 0));
-    }
-    if let Some(bad) = tape.iter().position(|symbol| *symbol as usize >= SYMBOLS) {
-        return Err((10, bad));
-    }
-    if rows.len() < ROW_BYTES || sets.len() < SET_WORDS {
-        return Err((11, 0));
-    }
-    if scratch.len() <= tape.len() {
-        return Err((12, 0));
-    }
+    refusals::of_book(book)?;
+    refusals::of_tape(tape)?;
+    refusals::of_workspace(rows, sets)?;
+    refusals::of_scratch(tape, scratch)?;
     let outline = Outline::of(book);
-    numbering::number_both(book, &outline, rows, sets).map_err(|reply| (reply, 0))?;
-    backward(tape, &rows[PAIRS..ROW_BYTES], scratch);
+    numbering::number_both(book, &outline, rows, sets)?;
+    backward(tape, rows, scratch);
     Ok(outline)
 }
 
-fn backward(tape: &[u8], right_rows: &[u8], scratch: &mut [u8]) {
+fn backward(tape: &[u8], rows: &[u8], scratch: &mut [u8]) {
+    let right_rows = &rows[PAIRS..ROW_BYTES];
     scratch[tape.len()] = 0;
     let mut number = 0;
     for (symbol, place) in tape.iter().zip(&mut scratch[..tape.len()]).rev() {

@@ -2,10 +2,16 @@
 
 use super::outline::Outline;
 use super::stepping::{left_next, right_last, right_prev};
+use super::Refusal;
 use crate::answer::{MOST_SETS, PAIRS, ROW_BYTES, SET_WORDS, SYMBOLS};
 
 /// Both sides into the workspace; the counts, or 13 or 14 with both sides cleared.
-pub fn number_both(book: &[u8], outline: &Outline, rows: &mut [u8], sets: &mut [u64]) -> Result<(usize, usize), u8> {
+pub fn number_both(
+    book: &[u8],
+    outline: &Outline,
+    rows: &mut [u8],
+    sets: &mut [u64],
+) -> Result<(usize, usize), Refusal> {
     let (rows, sets) = (&mut rows[..ROW_BYTES], &mut sets[..SET_WORDS]);
     rows.fill(0);
     sets.fill(0);
@@ -19,7 +25,7 @@ pub fn number_both(book: &[u8], outline: &Outline, rows: &mut [u8], sets: &mut [
         _ => {
             rows.fill(0);
             sets.fill(0);
-            Err(if left.is_none() { 13 } else { 14 })
+            Err((if left.is_none() { 13 } else { 14 }, 0))
         }
     }
 }
