@@ -20,6 +20,7 @@ enum {
     WORD = 8,                 /* bytes */
     ROOM = 1 << 13,           /* more than any book or tape of the inputs has */
     LINES = 16 * 64 * 65 / 2, /* every stretch of a short tape by every rule; the dense book's account has more and is refused */
+    HEAT_OUT = QAFRENDI_MOST_LANES * QAFRENDI_LONGEST_OUT,
     TEXT = 1 << 12
 };
 
@@ -57,9 +58,10 @@ static size_t book_length, tape_length;
 static uint8_t rows[QAFRENDI_ROW_BYTES];
 static uint64_t sets[QAFRENDI_SET_WORDS];
 static uint8_t scratch[QAFRENDI_SCRATCH];
-static uint8_t out[QAFRENDI_LONGEST_OUT];
-static uint16_t origins[QAFRENDI_LONGEST_OUT];
+static uint8_t out[HEAT_OUT];
+static uint16_t origins[HEAT_OUT];
 static uint16_t lines[QAFRENDI_LINE_WORDS * LINES];
+static qafrendi_lane lanes[QAFRENDI_MOST_LANES + 1];
 
 static void check(function *f)
 {
@@ -93,6 +95,25 @@ static void show(function *f)
         ((__typeof__(qafrendi_show) *)f)(tape_length, lines, QAFRENDI_LINE_WORDS * LINES, shown[i]);
 }
 
+/* Each lane is the whole tape: ten of them, and one; then each refusal of HEAT's own, and those of a lane that the tape alone does not bring. */
+static void heat(function *f)
+{
+    const struct {
+        size_t lanes, tapes, scratch, out;
+    } heats[] = {
+        {QAFRENDI_MOST_LANES, tape_length, QAFRENDI_SCRATCH, HEAT_OUT},
+        {1, tape_length, QAFRENDI_SCRATCH, HEAT_OUT},
+        {QAFRENDI_MOST_LANES + 1, tape_length, QAFRENDI_SCRATCH, HEAT_OUT}, /* 16 */
+        {QAFRENDI_MOST_LANES, 0, QAFRENDI_SCRATCH, HEAT_OUT},               /* 17 */
+        {QAFRENDI_MOST_LANES, tape_length, 0, HEAT_OUT},                    /* 12 */
+        {QAFRENDI_MOST_LANES, tape_length, QAFRENDI_SCRATCH, 0},            /* 15 */
+    };
+    for (size_t i = 0; i < sizeof heats / sizeof *heats; i++)
+        ((__typeof__(qafrendi_heat) *)f)(
+            book, book_length, tape, heats[i].tapes, lanes, heats[i].lanes, rows, QAFRENDI_ROW_BYTES, sets, QAFRENDI_SET_WORDS,
+            scratch, heats[i].scratch, out, heats[i].out, origins, heats[i].out);
+}
+
 /* One row: the operation, its arguments with the place of a long answer, and its stack at the worst input so far. */
 static struct operation {
     const char *name;
@@ -107,6 +128,7 @@ static struct operation {
     {"rewrite", 15, rewrite, (function *)qafrendi_rewrite, 0, "every input"},
     {"account", 13, account, (function *)qafrendi_account, 0, "every input"},
     {"show", 4, show, (function *)qafrendi_show, 0, "every input"},
+    {"heat", 16, heat, (function *)qafrendi_heat, 0, "every input"},
 };
 
 enum { OPERATIONS = sizeof operations / sizeof *operations };
@@ -175,6 +197,8 @@ static void measure_all(const char *folder, const char *name)
 {
     book_length = load(book, folder, name, ".book");
     tape_length = load(tape, folder, name, ".tape");
+    for (size_t i = 0; i < sizeof lanes / sizeof *lanes; i++)
+        lanes[i].length = tape_length;
     for (int i = 0; i < OPERATIONS; i++)
         measure(&operations[i], name);
 }

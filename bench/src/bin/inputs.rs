@@ -1,7 +1,7 @@
 //! inputs DIR: the inputs that stack.c measures each operation on. DIR/names has a name a line; NAME.book and NAME.tape are the bytes.
 //! A program of its own, so that it needs neither the library nor its peers.
 
-use bench::answer::TAPE;
+use bench::answer::{SYMBOLS, TAPE};
 use bench::cases::{Cases, SEED};
 use bench::chance::Chance;
 use std::fs::write;
@@ -15,7 +15,7 @@ fn main() -> std::io::Result<()> {
     let folder = PathBuf::from(std::env::args().nth(1).expect("inputs DIR"));
     let cases = Cases::new(&mut Chance::new(SEED));
     let few = &cases.random[0][..FEW];
-    let inputs: [(&str, &[u8], &[u8]); 11] = [
+    let inputs: [(&str, &[u8], &[u8]); 12] = [
         ("house book, pool-like tape", &cases.house, &cases.pool[0]),
         ("house book, one long stretch", &cases.house, &cases.one_stretch[0]),
         ("house book, no candidate", &cases.house, &cases.no_candidate[0]),
@@ -25,6 +25,7 @@ fn main() -> std::io::Result<()> {
         ("every stretch a candidate", &cases.every, few),
         ("no two focus sets alike", &cases.alike, few),
         ("a tape that is too long", &cases.house, &[0; TAPE + 1]),
+        ("a symbol above 15", &cases.house, &[SYMBOLS as u8; FEW]),
         ("a cut book", &cases.house[..CUT], few),
         ("the empty book", &[], &[]),
     ];
