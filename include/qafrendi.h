@@ -19,7 +19,7 @@
  * A heat: 16 first, nothing written; then 1 to 8, 11, 13, 14 for the whole call; then lane by lane 17, 9, 10, 12, 15.
  *
  * Stack of a call, with its arguments and return address, measured on the worst inputs known (bench/run stack): check 312 bytes,
- * build 1,224, rewrite 2,808, account 2,776, show 8. No call recurses.
+ * build 1,224, rewrite 3,032, account 2,776, show 8, heat 3,128. No call recurses.
  */
 #ifndef QAFRENDI_H
 #define QAFRENDI_H
