@@ -170,9 +170,9 @@ qafrendi_stretch qafrendi_show(size_t tape_length, const uint16_t *lines, size_t
 
 /* HEAT: all lanes of a heat: one book, and up to QAFRENDI_MOST_LANES tapes in one common buffer. The book is built once, and each lane gets
  * what qafrendi_rewrite gives for its tape alone, one after another, each with the room still left.
- * Replies 0 to 8, 11, 13, 14, 16; but for 0 no lane is touched, and the workspace is as qafrendi_build leaves it. With 0, also for no
- * lane at all, each lane has a reply of its own: 0, 9, 10, 12, 15, 17. Its place is a position of its own tape, or with 15 the symbols
- * that it needs. Lanes may overlap, and start and length may be any numbers.
+ * Replies 0 to 8, 11, 13, 14, 16. With 16 nothing is written; with 1 to 8, 11, 13 and 14 no lane is touched, and the workspace is as
+ * qafrendi_build leaves it, also where there is no lane at all. With 0 each lane has a reply of its own: 0, 9, 10, 12, 15, 17. Its place
+ * is a position of its own tape, or with 15 the symbols that it needs. Lanes may overlap, and start and length may be any numbers.
  * Needs the workspace as BUILD does, scratch of the longest tape's length + 1, and room for the outputs together.
  * Writes the workspace as BUILD does, even if no lane is accepted; each lane's out, taken, reply and place; scratch as the lanes one
  * after another leave it (17, 9, 10 and 12 leave it as it was); and for each accepted lane `out` elements of out and of origins, right

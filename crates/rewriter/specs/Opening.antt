@@ -1,7 +1,6 @@
 -- What the functions before the forward passes hand on, for their contracts: the refusal with the number of the book's rules, the greatest symbol,
 -- and the numbers of the right sets as the code walks to them. What the refusals and the numbers are is `early` and `rightNumbers` of Replies.
 use Prim.Native.Nat.{ℕ, suc, _<_}
-use mathlib.Core.Path.{_≡_}
 use mathlib.Core.List.{List, map}
 use mathlib.Core.Bool.{cond}
 use lib.Dec.{leb, ltb, eqb}
