@@ -6,28 +6,17 @@ use mathlib.Core.Path.{_≡_, sym, subst, _∙_}
 use mathlib.Core.List.{List}
 use lib.ListN.{length}
 use lib.Dec.{eqb}
-use lib.Seq.{ext-getD}
 use borrow.Author.Tests.{eqb-false}
 use native.Mathlib.Omega.{arith}
-use Rattle.book.specs.declared.outline.Masks.{Masks}
 use Rattle.book.specs.Format.{mostRules, endKind, byte, endReply, kindReply}
 use Rattle.book.specs.Reading.{State, Book, empty, scanOf, accepted, readFrom, readBook, answer, checkDef, bookOf}
 use Rattle.book.specs.Language.{stateOf}
-use Rattle.book.specs.Outline.{Masked}
 use Rattle.book.specs.Sound.{Sound}
 use Rattle.book.proofs.Passed.{test-passed, passed}
 use Rattle.book.proofs.Accepted.{Next, last, more, next, never, is-accepted, accepted-answer}
 use Rattle.book.proofs.Sound.{accepted-sound}
 use Rattle.book.proofs.Walk.{walk-start}
 use Rattle.book.proofs.Placing.{Found, found}
-
--- two masks of one part and flag are equal
-pub one-mask : (part flag : ℕ) (states : List State) (m n : Masks) → Masked part flag states m → Masked part flag states n → m ≡ n
-one-mask part flag states m n p q =
-    let short : (k : ℕ) → k < length (m .each) → k < mostRules = λ k h. omega (arith, p .long) in
-    let each = ext-getD 0 (m .each) (n .each) (p .long ∙ sym (q .long)) (λ k h. p .rules k (short k h) ∙ sym (q .rules k (short k h))) in
-    let all = p .whole ∙ sym (q .whole) in
-    λ i. record { each = each i; all = all i }
 
 -- the end record passes its test after a rule alone
 end-rule : (s : List ℕ) (at : ℕ) (b : Book) → kindReply s at (scanOf b) ≡ 0 → byte s at ≡ endKind → 0 < length (b .words)

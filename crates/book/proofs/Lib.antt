@@ -15,6 +15,8 @@ pub mod Sound
 pub mod Walk
 pub mod Placing
 pub mod Masking
+pub mod Outlining
 -- What the crates above may rely on.
 pub mod Claims
+pub mod OneMasks
 pub mod One

@@ -1,80 +1,55 @@
 // The outline of an accepted book, computed once from its bytes and small: where the records of its states and of its rules stand, and
-// the sets of the states of a part that start or accept. The builder and the rewriter compute only what they use of it.
+// the sets of the states of a part that start or accept. It is put into arrays that the caller lends, so that it stands on the stack once.
 ghost use mathlib.Core.Path.{_≡_};
 ghost use mathlib.Core.Bool.{cond};
+ghost use mathlib.Core.List.{[]};
 ghost use Prim.Native.Nat.{_+_, _≤_, _<_, _^_};
 ghost use lib.ListN.{length};
-ghost use Rattle.book.specs.Format.{mostStates, stateSize, partAt, flagsAt, byte};
+ghost use Rattle.book.specs.Format.{mostRules, mostStates, stateSize, partAt, flagsAt, byte, pad};
 ghost use Rattle.book.specs.Reading.{wordAt, checkDef, bookOf};
 ghost use Rattle.book.specs.Language.{flagged};
-ghost use Rattle.book.specs.Outline.{statePlaces, rulePlaces, WordRoom, Masked, passes};
+ghost use Rattle.book.specs.Outline.{statePlaces, rulePlaces, WordRoom, passes, maskCount, Masked, Joined, oneBit, ruleBits, allBits};
 
-pub struct StatePlaces {
-    // The offset of each state's record, 0 where there is no state: no state's record stands at 0, where the first rule's does. The step of
-    // a focus set goes straight to the record of its state.
-    pub places: [u16; super::STATES],
-}
+// The masks, sets of states with bit s for state s, stand in one array. One kind after the other, a mask a rule, 0 past the last rule; then those
+// of all rules: the focus starts, the focus accepts, the left starts and the right accepts.
+pub const LEFT_ACCEPTS: usize = 0;
 
-pub struct RulePlaces {
-    // The offset of each rule's record, below 65,536 in an accepted book, and 0 past the last rule. The output reads its words there.
-    pub places: [u16; super::RULES],
-}
+pub const FOCUS_STARTS: usize = super::RULES;
 
-// The states of one part with one flag.
-pub struct Masks {
-    // Those of each rule, 0 past the last rule: a context is tested by the mask of its rule.
-    pub each: [u64; super::RULES],
-    // Those of all rules: a side's first set is made of them, and the walk asks them before it asks rule by rule.
-    pub all: u64,
-}
+pub const FOCUS_ACCEPTS: usize = 2 * super::RULES;
 
-// Of an accepted book alone: its callers have CHECK's reply.
-pub fn place_states(s: &[u8]) -> StatePlaces
+pub const RIGHT_STARTS: usize = 3 * super::RULES;
+
+pub const ALL_STARTS: usize = 4 * super::RULES;
+
+pub const ALL_ACCEPTS: usize = ALL_STARTS + 1;
+
+pub const LEFT_STARTS: usize = ALL_STARTS + 2;
+
+pub const RIGHT_ACCEPTS: usize = ALL_STARTS + 3;
+
+pub const MASKS: usize = ALL_STARTS + 4;
+
+// Where each rule's record stands, 0 past the last rule: the output reads its words there. Into an array that is all 0, and of an accepted book
+// alone: its callers have CHECK's reply, and its records stand below 65,536.
+pub fn place_rules(s: &[u8], places: &mut [u16; super::RULES])
     requires { ⌜ checkDef (now s) .reply ≡ 0 ⌝ }
-    ensures { λ r. ⌜ r .places ≡ statePlaces (now (s .entry)) ⌝ }
+    requires { ⌜ now places ≡ pad mostRules [] ⌝ }
+    ensures { λ _. ⌜ now (places .exit) ≡ rulePlaces (now (s .entry)) ⌝ }
 {
-    let mut out = StatePlaces {
-        places: [0u16; super::STATES],
-    };
-    let mut states = 0;
-    let mut at = 0;
-    loop {
-        let kind = s[at];
-        match kind {
-            super::RULE => {}
-            super::STATE => {
-                out.places[states] = at as u16;
-                states += 1;
-            }
-            super::ARC => {}
-            super::END => return out,
-            0 | 5..=255 => return out, // an accepted book has none
-        }
-        at += super::record_size(kind);
-    }
-}
-
-// Of an accepted book alone: its callers have CHECK's reply.
-pub fn place_rules(s: &[u8]) -> RulePlaces
-    requires { ⌜ checkDef (now s) .reply ≡ 0 ⌝ }
-    ensures { λ r. ⌜ r .places ≡ rulePlaces (now (s .entry)) ⌝ }
-{
-    let mut out = RulePlaces {
-        places: [0u16; super::RULES],
-    };
     let mut rules = 0;
     let mut at = 0;
     loop {
         let kind = s[at];
         match kind {
             super::RULE => {
-                out.places[rules] = at as u16;
+                places[rules] = at as u16;
                 rules += 1;
             }
             super::STATE => {}
             super::ARC => {}
-            super::END => return out,
-            0 | 5..=255 => return out, // an accepted book has none
+            super::END => return,
+            0 | 5..=255 => return, // an accepted book has none
         }
         at += super::record_size(kind);
     }
@@ -126,15 +101,79 @@ fn state_bit(s: &[u8], at: usize, part: u8, flag: u8, k: usize) -> u64
     }
 }
 
-// Of an accepted book alone: its callers have CHECK's reply.
-pub fn mask_states(s: &[u8], part: u8, flag: u8) -> Masks
-    requires { ⌜ checkDef (now s) .reply ≡ 0 ⌝ }
-    ensures { λ r. ⌜ Masked part flag (bookOf (now (s .entry)) .states) r ⌝ }
+// Adds state k, whose record stands at `at`, to the mask at i, if it is of that part with that flag.
+fn add_bit(s: &[u8], at: usize, part: u8, flag: u8, k: usize, masks: &mut [u64; MASKS], i: usize)
+    requires { ⌜ (at + stateSize ≤ length (now s)) × (k < mostStates) ⌝ }
+    requires { ⌜ (i < maskCount) × (length (now masks) ≡ maskCount) ⌝ }
+    ensures { λ _. ⌜ Joined (oneBit part flag (now (s .entry)) at k i) (now (masks .entry)) (now (masks .exit)) ⌝ }
 {
-    let mut out = Masks {
-        each: [0u64; super::RULES],
-        all: 0,
-    };
+    let bit = state_bit(s, at, part, flag, k);
+    masks[i] = masks[i] | bit;
+}
+
+// Adds a state of rule r to the masks of its rule.
+fn add_to_rule(s: &[u8], at: usize, k: usize, r: usize, masks: &mut [u64; MASKS])
+    requires { ⌜ (at + stateSize ≤ length (now s)) × (k < mostStates) ⌝ }
+    requires { ⌜ (r < mostRules) × (length (now masks) ≡ maskCount) ⌝ }
+    ensures { λ _. ⌜ Joined (ruleBits (now (s .entry)) at k r) (now (masks .entry)) (now (masks .exit)) ⌝ }
+{
+    add_bit(
+        s,
+        at,
+        super::LEFT,
+        super::ACCEPT,
+        k,
+        masks,
+        LEFT_ACCEPTS + r,
+    );
+    add_bit(
+        s,
+        at,
+        super::FOCUS,
+        super::START,
+        k,
+        masks,
+        FOCUS_STARTS + r,
+    );
+    add_bit(
+        s,
+        at,
+        super::FOCUS,
+        super::ACCEPT,
+        k,
+        masks,
+        FOCUS_ACCEPTS + r,
+    );
+    add_bit(
+        s,
+        at,
+        super::RIGHT,
+        super::START,
+        k,
+        masks,
+        RIGHT_STARTS + r,
+    );
+}
+
+// Adds a state to the masks of all rules.
+fn add_to_all(s: &[u8], at: usize, k: usize, masks: &mut [u64; MASKS])
+    requires { ⌜ (at + stateSize ≤ length (now s)) × (k < mostStates) × (length (now masks) ≡ maskCount) ⌝ }
+    ensures { λ _. ⌜ Joined (allBits (now (s .entry)) at k) (now (masks .entry)) (now (masks .exit)) ⌝ }
+{
+    add_bit(s, at, super::FOCUS, super::START, k, masks, ALL_STARTS);
+    add_bit(s, at, super::FOCUS, super::ACCEPT, k, masks, ALL_ACCEPTS);
+    add_bit(s, at, super::LEFT, super::START, k, masks, LEFT_STARTS);
+    add_bit(s, at, super::RIGHT, super::ACCEPT, k, masks, RIGHT_ACCEPTS);
+}
+
+// Where each state's record stands, 0 where there is no state (no state's record stands at 0, where the first rule's does), and the masks of all
+// states: one reading of the records, into arrays that are all 0. Of an accepted book alone: its callers have CHECK's reply.
+pub fn outline_of(s: &[u8], places: &mut [u16; super::STATES], masks: &mut [u64; MASKS])
+    requires { ⌜ checkDef (now s) .reply ≡ 0 ⌝ }
+    requires { ⌜ (now places ≡ pad mostStates []) × (now masks ≡ pad maskCount []) ⌝ }
+    ensures { λ _. ⌜ now (places .exit) ≡ statePlaces (now (s .entry)) ⌝ }
+    ensures { λ _. ⌜ Masked (bookOf (now (s .entry)) .states) (now (masks .exit)) ⌝ }
+{
     let mut rules = 0;
     let mut states = 0;
     let mut at = 0;
@@ -143,15 +182,14 @@ pub fn mask_states(s: &[u8], part: u8, flag: u8) -> Masks
         match kind {
             super::RULE => rules += 1,
             super::STATE => {
-                let bit = state_bit(s, at, part, flag, states);
-                let r = rules - 1;
-                out.each[r] = out.each[r] | bit;
-                out.all = out.all | bit;
+                places[states] = at as u16;
+                add_to_rule(s, at, states, rules - 1, masks);
+                add_to_all(s, at, states, masks);
                 states += 1;
             }
             super::ARC => {}
-            super::END => return out,
-            0 | 5..=255 => return out, // an accepted book has none
+            super::END => return,
+            0 | 5..=255 => return, // an accepted book has none
         }
         at += super::record_size(kind);
     }

@@ -10,14 +10,19 @@ use lib.Dec.{ltb, eqb}
 use lib.ListN.{length}
 use borrow.Author.Tests.{eq-eqb, ne-eqb, lt-ltb, le-ltb}
 use Rattle.book.specs.Reading.{checkDef, bookOf}
-use Rattle.sets.specs.Workspace.{AfterBuild, buildLeaves, buildDef}
+use Rattle.book.specs.declared.Checked.{Checked}
+use Rattle.sets.specs.Workspace.{AfterBuild, refusal, buildLeaves, buildDef}
 use Rattle.sets.specs.declared.Built.{Built}
 use Rattle.sets.specs.Tables.{AsBuilt}
-use Rattle.sets.proofs.Tables.{buildable, as-built}
+use Rattle.sets.proofs.Tables.{way-refused, buildable, as-built}
 use Rattle.rewriter.proofs.Whole.{rules-counted}
 use Rattle.heat.specs.declared.Begun.{Begun}
 use Rattle.heat.specs.Heats.{mostLanes, heated}
 use Rattle.heat.specs.Begins.{AfterBegin, begins, refused, beginDef}
+
+-- CHECK's reply
+pub checked-is : (book : List ℕ) (k : Checked) → k ≡ checkDef book → k .reply ≡ 0 → checkDef book .reply ≡ 0
+checked-is book k is z = sym (ap (λ (x : Checked). x .reply) is) ∙ z
 
 module _ (book : List ℕ) (n : ℕ) (R S : List ℕ) where
   pub begin-many : mostLanes < n → (r : Begun) → r ≡ refused 16 0 → begins r R S ≡ beginDef book n R S
@@ -32,6 +37,14 @@ module _ (book : List ℕ) (n : ℕ) (R S : List ℕ) where
     begin-refused b R′ S′ is h r e =
         simp (le-ltb _ _ few, ne-eqb _ _ (λ z. h (ap (λ (x : AfterBuild). x .answer .reply) is ∙ z)))
         (ap (λ (x : Begun). begins x R′ S′) e ∙ ap (λ (x : AfterBuild). begins (refused (x .answer .reply) (x .answer .place)) (x .rows) (x .sets)) is)
+
+    -- what CHECK refuses, BUILD does
+    pub begin-unchecked : (k : Checked) → k ≡ checkDef book → (k .reply ≡ 0 → ⊥) → (r : Begun) → r ≡ refused (k .reply) (k .place)
+        → begins r R S ≡ beginDef book n R S
+    begin-unchecked k is h r e =
+        let b = refusal (k .reply) (k .place) in
+        begin-refused b R S
+        (way-refused book R S b (λ z. h (ap (λ (x : Checked). x .reply) is ∙ z)) (ap (λ (x : Checked). refusal (x .reply) (x .place)) is)) h r e
 
     pub begin-done : (b : Built) (R′ S′ : List ℕ) → buildLeaves b R′ S′ ≡ buildDef book R S → b .reply ≡ 0 → (rules : ℕ) → rules ≡ checkDef book .rules
         → begins (record { heated = heated 0 0; lanes = n; rules = rules }) R′ S′ ≡ beginDef book n R S

@@ -78,18 +78,27 @@ fn refused(reply: u8, place: usize) -> Begun
     }
 }
 
-// Before the lanes: 16, then BUILD, once for all of them. CHECK counts the rules, which BUILD does not hand on.
+// Before the lanes: 16, then BUILD, once for all of them; CHECK is called here, for it counts the rules.
 fn begin(book: &[u8], lanes: usize, rows: &mut [u8], sets: &mut [u64]) -> Begun
     ensures { λ r. ⌜ begins r (now (rows .exit)) (now (sets .exit)) ≡ beginDef (now (book .entry)) lanes (now (rows .entry)) (now (sets .entry)) ⌝ }
 {
     if MOST_LANES < lanes {
         return refused(16, 0);
     }
-    let built = sets::build(book, rows, sets);
+    let checked = book::check(book);
+    if checked.reply != 0 {
+        return refused(checked.reply, checked.place);
+    }
+    if rows.len() < sets::ROW_BYTES {
+        return refused(11, 0);
+    }
+    if sets.len() < sets::SET_WORDS {
+        return refused(11, 0);
+    }
+    let built = sets::number_book(book, rows, sets);
     if built.reply != 0 {
         return refused(built.reply, built.place);
     }
-    let checked = book::check(book);
     Begun {
         heated: Heated { reply: 0, place: 0 },
         lanes,

@@ -1,10 +1,9 @@
 // ACCOUNT's passes over one tape: the candidates are counted before the first word is written, so that a refusal leaves the account as it was.
 use crate::writing::write_lines;
+use book::outline::ALL_ACCEPTS;
+use book::outline::MASKS;
 use sets::entries::left_entry;
 use sets::entries::right_set;
-use stretches::outline::ALL_ACCEPTS;
-use stretches::outline::MASKS;
-use stretches::outline::outline_of;
 use stretches::walk::first_set;
 use stretches::walk::rule_hits;
 ghost use mathlib.Core.Path.{_≡_};
@@ -124,12 +123,13 @@ fn count(
     n
 }
 
-// Counts, then writes. Refused with 15 and nothing written where the account is too short. Both arrays are lent from one outline, hence at one
-// lifetime.
-fn count_and_write<'a>(
+// The account of one tape after a build and its backward pass: counts, then writes. Refused with 15 and nothing written where the account is too
+// short. Public, and with a `requires`, as `output::rewrite_ready` is: who accounts calls it after a build, with the outline that he has from the
+// book.
+pub fn account_ready(
     book: &[u8],
-    places: &'a [u16; book::STATES],
-    masks: &'a [u64; MASKS],
+    places: &[u16; book::STATES],
+    masks: &[u64; MASKS],
     rules: usize,
     tape: &[u8],
     rows: &[u8],
@@ -155,33 +155,4 @@ fn count_and_write<'a>(
         place: 0,
         candidates,
     }
-}
-
-// The account of one tape after a build and its backward pass. Public, and with a `requires`, as `output::rewrite_ready` is: who accounts for many
-// tapes after one build need not check and build again for each.
-pub fn account_ready(
-    book: &[u8],
-    tape: &[u8],
-    rows: &[u8],
-    sets: &[u64],
-    scratch: &[u8],
-    rules: usize,
-    lines: &mut [u16],
-) -> Accounted
-    requires { ⌜ Ready (now book) (now tape) (now rows) (now sets) (now scratch) ⌝ }
-    requires { ⌜ rules ≡ length (bookOf (now book) .words) ⌝ }
-    ensures { λ r. ⌜ linesLeave r (now (lines .exit)) ≡ linesDef (rulesIn (now (book .entry))) (now (tape .entry)) (now (lines .entry)) ⌝ }
-{
-    let outline = outline_of(book);
-    count_and_write(
-        book,
-        &outline.places,
-        &outline.masks,
-        rules,
-        tape,
-        rows,
-        sets,
-        scratch,
-        lines,
-    )
 }

@@ -4,7 +4,7 @@ use Rattle.book.specs.Determined.{Determined, Called}
 use Rattle.output.proofs.rewrite_ready.Kinds as ready-kinds
 use Rattle.output.proofs.rewrite_ready.Reads as ready-reads
 
-pub one-ready : Determined 7 ready-kinds.ps ready-kinds.r (Called 7 ready-kinds.ps ready-kinds.r ready-reads.Pre ready-reads.Post)
+pub one-ready : Determined 9 ready-kinds.ps ready-kinds.r (Called 9 ready-kinds.ps ready-kinds.r ready-reads.Pre ready-reads.Post)
 one-ready κs a x y v w p q =
     let e = p .1 ∙ sym (q .1) in
-    (λ i. e i .answer, λ i. (tt, (tt, (tt, (tt, (tt, (tt, (e i .out, (e i .origins, tt)))))))))
+    (λ i. e i .answer, λ i. (tt, (tt, (tt, (tt, (tt, (tt, (tt, (tt, (e i .out, (e i .origins, tt)))))))))))

@@ -12,8 +12,8 @@ use Rattle.sets.specs.Sets.{leftAt}
 use Rattle.sets.specs.Numbering.{mostSets}
 use Rattle.stretches.specs.Candidates.{longest, ruleOf}
 use Rattle.stretches.specs.Output.{wordMarks, ruleWord, symbolsOf, originsOf}
-use Rattle.book.specs.Outline.{WordAt, WordsAt}
-use Rattle.stretches.specs.Ready.{allStarts, Tests, RightSets}
+use Rattle.book.specs.Outline.{WordAt, WordsAt, allStarts}
+use Rattle.stretches.specs.Ready.{Tests, RightSets}
 use Rattle.stretches.specs.Position.{TakenHere, marksAt}
 use Rattle.output.specs.Passes.{Shared, WordPut, KeptPut, MarksFit, MarksPut}
 use Rattle.stretches.specs.Lists.{put}

@@ -2,16 +2,14 @@
 use crate::passes::forward;
 use crate::passes::measure;
 use crate::words::longest_word;
+use book::outline::MASKS;
 use book::outline::place_rules;
-use stretches::outline::MASKS;
-use stretches::outline::outline_of;
 ghost use mathlib.Core.Path.{_≡_};
 ghost use Prim.Native.Nat.{min};
-ghost use lib.ListN.{length};
 ghost use Rattle.book.specs.Reading.{bookOf};
 ghost use Rattle.book.specs.Language.{rulesIn};
 ghost use Rattle.output.specs.Tape.{tapeLeaves, tapeDef};
-ghost use Rattle.stretches.specs.Ready.{Lent, Ready};
+ghost use Rattle.stretches.specs.Ready.{Outlined, Lent, Ready};
 ghost use Rattle.output.specs.Passes.{neededPast};
 
 mod passes; // passes.rt: measuring and writing the output, position after position
@@ -79,10 +77,10 @@ fn needed(
 }
 
 // Writes where there is room.
-fn write_if_room<'a>(
+fn write_if_room(
     book: &[u8],
-    places: &'a [u16; book::STATES],
-    masks: &'a [u64; MASKS],
+    places: &[u16; book::STATES],
+    masks: &[u64; MASKS],
     words: &[u16; book::RULES],
     rules: usize,
     tape: &[u8],
@@ -134,30 +132,32 @@ fn write_if_room<'a>(
     }
 }
 
-// One tape after a build and its backward pass. Public, and with a `requires`: who rewrites many tapes after one build calls it once a tape,
-// where REWRITE would check and build again for each.
+// One tape after a build and its backward pass. Public, and with a `requires`: who rewrites calls it after a build, once a tape, with the outline
+// that he has from the book.
 pub fn rewrite_ready(
     book: &[u8],
+    places: &[u16; book::STATES],
+    masks: &[u64; MASKS],
+    rules: usize,
     tape: &[u8],
     rows: &[u8],
     sets: &[u64],
     scratch: &[u8],
-    rules: usize,
     out: &mut [u8],
     origins: &mut [u16],
 ) -> Rewritten
+    requires { ⌜ Outlined (bookOf (now book)) rules (now places) (now masks) ⌝ }
     requires { ⌜ Ready (now book) (now tape) (now rows) (now sets) (now scratch) ⌝ }
-    requires { ⌜ rules ≡ length (bookOf (now book) .words) ⌝ }
     ensures { λ r. ⌜ tapeLeaves r (now (out .exit)) (now (origins .exit))
         ≡ tapeDef (rulesIn (now (book .entry))) (now (tape .entry)) (now (out .entry)) (now (origins .entry)) ⌝ }
 {
-    let outline = outline_of(book);
-    let words = place_rules(book);
+    let mut words = [0u16; book::RULES];
+    place_rules(book, &mut words);
     write_if_room(
         book,
-        &outline.places,
-        &outline.masks,
-        &words.places,
+        places,
+        masks,
+        &words,
         rules,
         tape,
         rows,

@@ -1,10 +1,10 @@
 // The output, position after position: its symbol is passed over inside a taken stretch, kept, or replaced by the word of a rule. Where it may
 // not fit it is measured before the first write, so that a refusal leaves the outputs as they were.
 use crate::words::put_word;
+use book::outline::ALL_STARTS;
+use book::outline::MASKS;
 use sets::entries::left_entry;
 use sets::entries::right_set;
-use stretches::outline::ALL_STARTS;
-use stretches::outline::MASKS;
 use stretches::steps::SLOTS;
 use stretches::steps::STEPS;
 use stretches::walk::taken_at;

@@ -65,46 +65,39 @@ module _ (book tape rows sets scratch : List ℕ) where
   unfolding readyDef
   ready-is z y = simp (eq-eqb (opening .reply) 0 z, eq-eqb (building .answer .reply) 0 y)
 
-  -- the code's three ways out, by what its callees gave; CHECK's count of the rules is handed on
-  abbrev Leaves : Opened → List ℕ → List ℕ → List ℕ → Type 0
-  Leaves r R S X = (readyLeaves (r .refusal) R S X ≡ readyDef book tape rows sets scratch) × (r .rules ≡ checkDef book .rules)
-
+  -- the code's three ways out, by what its callees gave: refused before anything is built, not built, ready
   module _ (o : Opened) (is : o ≡ opened opening (checkDef book .rules)) where
-    refusal-is : o .refusal ≡ opening
-    refusal-is = ap (λ (x : Opened). x .refusal) is
-
     reply-is : o .refusal .reply ≡ opening .reply
     reply-is = ap (λ (x : Opened). x .refusal .reply) is
 
-    rules-are : o .rules ≡ checkDef book .rules
+    pub rules-are : o .rules ≡ checkDef book .rules
     rules-are = ap (λ (x : Opened). x .rules) is
 
-    pub leaves-refused : (o .refusal .reply ≡ 0 → ⊥) → Leaves o rows sets scratch
-    leaves-refused h = (ap (λ (x : Refusal). readyLeaves x rows sets scratch) refusal-is ∙ sym (refused-is (λ z. h (reply-is ∙ z))), rules-are)
+    pub leaves-refused : (o .refusal .reply ≡ 0 → ⊥) → readyLeaves (o .refusal) rows sets scratch ≡ readyDef book tape rows sets scratch
+    leaves-refused h = ap (λ (x : Opened). readyLeaves (x .refusal) rows sets scratch) is ∙ sym (refused-is (λ z. h (reply-is ∙ z)))
 
-    module _ (z : o .refusal .reply ≡ 0) where
-      pub opening-admitted : Admitted book tape (length rows) (length sets) (length scratch)
-      opening-admitted = admitted book tape (length rows) (length sets) (length scratch) (sym reply-is ∙ z)
+    pub not-refused : o .refusal .reply ≡ 0 → opening .reply ≡ 0
+    not-refused z = sym reply-is ∙ z
 
-      module _ (b : Built) (R S : List ℕ) (as-built : buildLeaves b R S ≡ building) (r : Opened) where
-        pub leaves-unbuilt : (b .reply ≡ 0 → ⊥) → r ≡ opened (refusal (b .reply) 0) (o .rules) → Leaves r R S scratch
-        leaves-unbuilt h e = (
-          ap (λ (x : Opened). readyLeaves (x .refusal) R S scratch) e
-              ∙ ap (λ (x : AfterBuild). readyLeaves (refusal (x .answer .reply) 0) (x .rows) (x .sets) scratch) as-built
-              ∙ sym (unbuilt-is (sym reply-is ∙ z) (λ y. h (ap (λ (x : AfterBuild). x .answer .reply) as-built ∙ y))),
-          ap (λ (x : Opened). x .rules) e ∙ rules-are,
-        )
+  module _ (z : opening .reply ≡ 0) where
+    pub opening-admitted : Admitted book tape (length rows) (length sets) (length scratch)
+    opening-admitted = admitted book tape (length rows) (length sets) (length scratch) z
 
-        pub leaves-ready : b .reply ≡ 0 → (X : List ℕ) → X ≡ onto (rightAll R tape) scratch → r ≡ opened (refusal 0 0) (o .rules) → Leaves r R S X
-        leaves-ready y X f e =
-            let y′ : building .answer .reply ≡ 0 = sym (ap (λ (x : AfterBuild). x .answer .reply) as-built) ∙ y in (
-              ap₂ (λ (x : Refusal) (l : List ℕ). readyLeaves x R S l) (ap (λ (x : Opened). x .refusal) e ∙ ap (λ (k : ℕ). refusal k 0) (sym y)) f
-                  ∙ ap (λ (x : AfterBuild). readyLeaves (refusal (x .answer .reply) 0) (x .rows) (x .sets) (onto (rightAll (x .rows) tape) scratch)) as-built
-                  ∙ ap (λ (l : List ℕ). readyLeaves (refusal (building .answer .reply) 0) (building .rows) (building .sets) (onto l scratch))
-                  (right-numbers book rows sets tape y′ (opening-admitted .symbols))
-                  ∙ sym (ready-is (sym reply-is ∙ z) y′),
-              ap (λ (x : Opened). x .rules) e ∙ rules-are,
-            )
+    module _ (b : Built) (R S : List ℕ) (as-built : buildLeaves b R S ≡ building) where
+      pub leaves-unbuilt : (b .reply ≡ 0 → ⊥) → readyLeaves (refusal (b .reply) 0) R S scratch ≡ readyDef book tape rows sets scratch
+      leaves-unbuilt h =
+          ap (λ (x : AfterBuild). readyLeaves (refusal (x .answer .reply) 0) (x .rows) (x .sets) scratch) as-built
+          ∙ sym (unbuilt-is z (λ y. h (ap (λ (x : AfterBuild). x .answer .reply) as-built ∙ y)))
+
+      pub leaves-ready : b .reply ≡ 0 → (X : List ℕ) → X ≡ onto (rightAll R tape) scratch
+          → readyLeaves (refusal 0 0) R S X ≡ readyDef book tape rows sets scratch
+      leaves-ready y X f =
+          let y′ : building .answer .reply ≡ 0 = sym (ap (λ (x : AfterBuild). x .answer .reply) as-built) ∙ y in
+          ap₂ (λ (k : ℕ) (l : List ℕ). readyLeaves (refusal k 0) R S l) (sym y) f
+          ∙ ap (λ (x : AfterBuild). readyLeaves (refusal (x .answer .reply) 0) (x .rows) (x .sets) (onto (rightAll (x .rows) tape) scratch)) as-built
+          ∙ ap (λ (l : List ℕ). readyLeaves (refusal (building .answer .reply) 0) (building .rows) (building .sets) (onto l scratch))
+          (right-numbers book rows sets tape y′ (opening-admitted .symbols))
+          ∙ sym (ready-is z y′)
 
 -- the ways, in the order of the replies
 pub data ReadyWay (book tape rows sets scratch : List ℕ) (x : AfterReady) : Type 0 where

@@ -7,7 +7,9 @@ use borrow.Author.Tests.{eq-eqb, ne-eqb}
 use Rattle.book.specs.Reading.{checkDef, bookOf}
 use Rattle.book.specs.Language.{rulesIn}
 use Rattle.book.specs.declared.Checked.{Checked}
-use Rattle.book.proofs.Claims.{counts}
+use Rattle.book.specs.Outline.{Placed, Masked}
+use Rattle.book.proofs.Claims.{counts, sound}
+use Rattle.stretches.specs.Ready.{Outlined}
 use Rattle.rewriter.specs.Replies.{AfterReady, readyLeaves, readyDef, rewriteLeaves, rewriteFrom, rewriteDef, accountLeaves, accountFrom, accountDef}
 use Rattle.output.specs.Tape.{AfterTape, tapeLeaves, tapeDef}
 use Rattle.lines.specs.Listing.{AfterLines, linesLeave, linesDef}
@@ -18,6 +20,11 @@ use Rattle.lines.specs.declared.Accounted.{Accounted}
 -- CHECK's count of an accepted book's rules
 pub rules-counted : (book : List ℕ) (n : ℕ) → checkDef book .reply ≡ 0 → n ≡ checkDef book .rules → n ≡ length (bookOf book .words)
 rules-counted book n z e = e ∙ ap (λ (x : Checked). x .rules) (counts book z)
+
+-- the outline of an accepted book as it is lent to the passes
+pub outlined : (book places masks : List ℕ) (rules : ℕ) → checkDef book .reply ≡ 0 → rules ≡ length (bookOf book .words)
+    → Placed (bookOf book .states) places → Masked (bookOf book .states) masks → Outlined (bookOf book) rules places masks
+outlined book places masks rules z many p m = record { placed = p; tests = record { sound = sound book z; many = many; masked = m } }
 
 module _ (book tape rows sets scratch : List ℕ) (r : Refusal) (R S X : List ℕ) (is : readyLeaves r R S X ≡ readyDef book tape rows sets scratch) where
   module _ (h : r .reply ≡ 0 → ⊥) where

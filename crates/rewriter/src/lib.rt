@@ -1,4 +1,9 @@
 // The rewriter: REWRITE, ACCOUNT and SHOW.
+use crate::ready::make_ready;
+use crate::ready::tape_ready;
+use crate::refusals::early;
+use book::outline::MASKS;
+use book::outline::outline_of;
 ghost use mathlib.Core.Path.{_≡_};
 ghost use lib.ListN.{length};
 ghost use Rattle.book.specs.Reading.{bookOf};
@@ -6,7 +11,7 @@ ghost use Rattle.sets.specs.Tables.{AsBuilt};
 ghost use Rattle.rewriter.specs.Replies.{rewriteLeaves, rewriteDef, accountLeaves, accountDef};
 
 mod refusals; // refusals.rt: the refusals before anything is built
-mod ready; // ready.rt: what REWRITE and ACCOUNT share, and one tape after a build
+mod ready; // ready.rt: what REWRITE and ACCOUNT share after the refusals, and one tape after a build
 pub mod shown; // shown.rt: the stretch of the tape that a line of an account names
 
 pub use lines::Accounted;
@@ -40,7 +45,7 @@ pub fn rewrite(
         ≡ rewriteDef (now (book .entry)) (now (tape .entry)) (now (rows .entry))
         (now (sets .entry)) (now (scratch .entry)) (now (out .entry)) (now (origins .entry)) ⌝ }
 {
-    let opened = ready::make_ready(book, tape, rows, sets, scratch);
+    let opened = early(book, tape, rows.len(), sets.len(), scratch.len());
     if opened.refusal.reply != 0 {
         return Rewritten {
             reply: opened.refusal.reply,
@@ -49,7 +54,29 @@ pub fn rewrite(
             taken: 0,
         };
     }
-    output::rewrite_ready(book, tape, rows, sets, scratch, opened.rules, out, origins)
+    let mut places = [0u16; book::STATES];
+    let mut masks = [0u64; MASKS];
+    let reply = make_ready(book, tape, &mut places, &mut masks, rows, sets, scratch);
+    if reply != 0 {
+        return Rewritten {
+            reply,
+            place: 0,
+            length: 0,
+            taken: 0,
+        };
+    }
+    output::rewrite_ready(
+        book,
+        &places,
+        &masks,
+        opened.rules,
+        tape,
+        rows,
+        sets,
+        scratch,
+        out,
+        origins,
+    )
 }
 
 // REWRITE where rows and sets are as BUILD left them for this book: nothing is checked or built again, and the answer is REWRITE's. Public,
@@ -70,7 +97,7 @@ pub fn rewrite_built(
         ≡ rewriteDef (now (book .entry)) (now (tape .entry)) (now (rows .entry))
         (now (sets .entry)) (now (scratch .entry)) (now (out .entry)) (now (origins .entry)) ⌝ }
 {
-    let refusal = ready::tape_ready(tape, rows, scratch);
+    let refusal = tape_ready(tape, rows, scratch);
     if refusal.reply != 0 {
         return Rewritten {
             reply: refusal.reply,
@@ -79,7 +106,21 @@ pub fn rewrite_built(
             taken: 0,
         };
     }
-    output::rewrite_ready(book, tape, rows, sets, scratch, rules, out, origins)
+    let mut places = [0u16; book::STATES];
+    let mut masks = [0u64; MASKS];
+    outline_of(book, &mut places, &mut masks);
+    output::rewrite_ready(
+        book,
+        &places,
+        &masks,
+        rules,
+        tape,
+        rows,
+        sets,
+        scratch,
+        out,
+        origins,
+    )
 }
 
 // Document 01's ACCOUNT: any book, any tape and any buffers get their reply.
@@ -94,7 +135,7 @@ pub fn account(
     ensures { λ r. ⌜ accountLeaves r (now (rows .exit)) (now (sets .exit)) (now (scratch .exit)) (now (lines .exit))
         ≡ accountDef (now (book .entry)) (now (tape .entry)) (now (rows .entry)) (now (sets .entry)) (now (scratch .entry)) (now (lines .entry)) ⌝ }
 {
-    let opened = ready::make_ready(book, tape, rows, sets, scratch);
+    let opened = early(book, tape, rows.len(), sets.len(), scratch.len());
     if opened.refusal.reply != 0 {
         return Accounted {
             reply: opened.refusal.reply,
@@ -102,5 +143,25 @@ pub fn account(
             candidates: 0,
         };
     }
-    lines::account_ready(book, tape, rows, sets, scratch, opened.rules, lines)
+    let mut places = [0u16; book::STATES];
+    let mut masks = [0u64; MASKS];
+    let reply = make_ready(book, tape, &mut places, &mut masks, rows, sets, scratch);
+    if reply != 0 {
+        return Accounted {
+            reply,
+            place: 0,
+            candidates: 0,
+        };
+    }
+    lines::account_ready(
+        book,
+        &places,
+        &masks,
+        opened.rules,
+        tape,
+        rows,
+        sets,
+        scratch,
+        lines,
+    )
 }

@@ -117,11 +117,11 @@ left-next b X c o =
 -- ---- the closure
 
 -- what is given by the masks of two parts with their flags
-module _ (b : Book) (o : Sound b) (p₁ f₁ p₂ f₂ : ℕ) (x : ℕ) (S A : List ℕ) (ms : EachMask p₁ f₁ (b .states) S) (ma : EachMask p₂ f₂ (b .states) A) where
+module _ (b : Book) (o : Sound b) (p₁ f₁ p₂ f₂ : ℕ) (x : ℕ) (S A : ℕ → ℕ) (ms : EachMask p₁ f₁ (b .states) S) (ma : EachMask p₂ f₂ (b .states) A) where
   tested : ℕ → ℕ → Bool
   tested r s = (eqb (stateOf b s .rule) r && isOf p₁ f₁ (stateOf b s)) && member x s
 
-  meets-tested : (r : ℕ) → r < mostRules → not (eqb (bitAnd x (getD S r 0)) 0) ≡ someState b (tested r)
+  meets-tested : (r : ℕ) → r < mostRules → not (eqb (bitAnd x (S r)) 0) ≡ someState b (tested r)
   unfolding tested ruleMask
   meets-tested r h =
       ap (λ (y : ℕ). not (eqb (bitAnd x y) 0)) (ms r h) ∙ meets b o (λ s. eqb (stateOf b s .rule) r && isOf p₁ f₁ (stateOf b s)) (none-rule b p₁ f₁ r) x
@@ -135,9 +135,9 @@ module _ (b : Book) (o : Sound b) (p₁ f₁ p₂ f₂ : ℕ) (x : ℕ) (S A : L
       member-none s ∙ ap (λ (t : Bool). t && (isOf p₂ f₂ (stateOf b s) && K (stateOf b s .rule))) (sym (le-ltb (stateOf b s .rule) 0 (omega arith)))
   gather-below (suc n) s h =
       let r = stateOf b s .rule in let E = isOf p₂ f₂ (stateOf b s) in
-      member-or (gather n x S A) (joins x (getD S n 0) (getD A n 0)) s
+      member-or (gather n x S A) (joins x (S n) (A n)) s
       ∙ ap₂ (λ (p q : Bool). p || q) (gather-below n s (omega arith))
-      (member-joins (eqb (bitAnd x (getD S n 0)) 0) (getD A n 0) s
+      (member-joins (eqb (bitAnd x (S n)) 0) (A n) s
       ∙ ap₂ (λ (p q : Bool). p && q) (meets-tested n (omega arith)) (ap (λ (y : ℕ). member y s) (ma n (omega arith)) ∙ member-rule b o p₂ f₂ n s)
       ∙ at-rule r n E K)
       ∙ sym (below-more r n (E && K r))
@@ -154,7 +154,7 @@ module _ (b : Book) (o : Sound b) (p₁ f₁ p₂ f₂ : ℕ) (x : ℕ) (S A : L
       ∙ ap (λ (t : Bool). t && (isOf p₂ f₂ (stateOf b s) && K (stateOf b s .rule))) (lt-ltb _ _ (rule-small s (decLt s (length (b .states)))))
 
 close-is : (b : Book) (o : Sound b) (f : ℕ → Bool) → ((s : ℕ) → length (b .states) ≤ s → f s ≡ false) → (x : ℕ) → ((s : ℕ) → member x s ≡ near b f s)
-    → (S A : List ℕ) → EachMask rightPart startFlag (b .states) S → EachMask focusPart acceptFlag (b .states) A → bitOr x (gather mostRules x S A) ≡ closed b f
+    → (S A : ℕ → ℕ) → EachMask rightPart startFlag (b .states) S → EachMask focusPart acceptFlag (b .states) A → bitOr x (gather mostRules x S A) ≡ closed b f
 unfolding closed isStart
 close-is b o f past x is S A ms ma =
     ext _ _ (λ s. member-or x (gather mostRules x S A) s
@@ -168,7 +168,7 @@ close-is b o f past x is S A ms ma =
     K′ : ℕ → Bool
     K′ k = someState b (λ (p : ℕ). isStart b (stateOf b k .rule) rightPart p && near b f p)
 
-pub right-prev : (b : Book) (X c x : ℕ) (S A : List ℕ) → Sound b → x ≡ bitOr (allMask rightPart acceptFlag (b .states)) (stepArcs toAt fromAt (b .arcs) X c)
+pub right-prev : (b : Book) (X c x : ℕ) (S A : ℕ → ℕ) → Sound b → x ≡ bitOr (allMask rightPart acceptFlag (b .states)) (stepArcs toAt fromAt (b .arcs) X c)
     → EachMask rightPart startFlag (b .states) S → EachMask focusPart acceptFlag (b .states) A → bitOr x (gather mostRules x S A) ≡ rightPrev b X c
 unfolding rightPrev
 right-prev b X c x S A o e ms ma =
@@ -177,7 +177,7 @@ right-prev b X c x S A o e ms ma =
     ∙ ap₂ (λ (p q : Bool). p || q) (member-all b o rightPart acceptFlag s) (member-back b X c s) ∙ B.or-comm (ends b rightPart s) (backBy b X c s))
     S A ms ma
 
-pub right-last : (b : Book) (x : ℕ) (S A : List ℕ) → Sound b → x ≡ allMask rightPart acceptFlag (b .states)
+pub right-last : (b : Book) (x : ℕ) (S A : ℕ → ℕ) → Sound b → x ≡ allMask rightPart acceptFlag (b .states)
     → EachMask rightPart startFlag (b .states) S → EachMask focusPart acceptFlag (b .states) A → bitOr x (gather mostRules x S A) ≡ rightLast b
 unfolding rightLast
 right-last b x S A o e ms ma = close-is b o (λ s. false) (λ s h. refl) x (λ s. ap (λ (y : ℕ). member y s) e ∙ member-all b o rightPart acceptFlag s) S A ms ma

@@ -3,6 +3,8 @@ use mathlib.Core.Path.{refl, sym, _∙_}
 use Rattle.book.specs.Determined.{Determined, Called}
 use Rattle.sets.proofs.build.Kinds as build-kinds
 use Rattle.sets.proofs.build.Reads as build-reads
+use Rattle.sets.proofs.number_both.Kinds as both-kinds
+use Rattle.sets.proofs.number_both.Reads as both-reads
 use Rattle.sets.proofs.number_book.Kinds as number-kinds
 use Rattle.sets.proofs.number_book.Reads as number-reads
 use Rattle.sets.proofs.stepping.focus_step.Kinds as step-kinds
@@ -19,6 +21,9 @@ use Rattle.sets.proofs.entries.right_set.Reads as right-set-reads
 -- BUILD: the answer, the rows and the sets
 pub one-build : Determined 3 build-kinds.ps build-kinds.r build-reads.Post
 one-build κs a x y v w p q = let e = p ∙ sym q in (λ i. e i .answer, λ i. (tt, (e i .rows, (e i .sets, tt))))
+
+pub one-both : Determined 5 both-kinds.ps both-kinds.r (Called 5 both-kinds.ps both-kinds.r both-reads.Pre both-reads.Post)
+one-both κs a x y v w p q = let e = p .1 ∙ sym (q .1) in (λ i. e i .answer, λ i. (tt, (tt, (tt, (e i .rows, (e i .sets, tt))))))
 
 pub one-numbered : Determined 3 number-kinds.ps number-kinds.r (Called 3 number-kinds.ps number-kinds.r number-reads.Pre number-reads.Post)
 one-numbered κs a x y v w p q = let e = p .1 ∙ sym (q .1) in (λ i. e i .answer, λ i. (tt, (e i .rows, (e i .sets, tt))))

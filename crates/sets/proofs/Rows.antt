@@ -16,12 +16,14 @@ use borrow.Author.Tests.{le-leb, lt-leb}
 use Rattle.book.specs.Format.{arcSize, stateSize, arcKind, stateKind, ruleKind, endKind, fromAt, toAt, symbolCount, mostRules, mostStates, byte, recordSize}
 use Rattle.book.specs.Reading.{Arc, Book, arcAt, bookOf, checkDef}
 use Rattle.book.specs.Language.{stateOf}
+use Rattle.book.specs.Outline.{leftStarts, rightAccepts, rightStarts, focusAccepts, Masked}
 use Rattle.book.specs.Sound.{Sound}
 use Rattle.book.specs.StateSets.{member}
 use Rattle.book.proofs.Bits.{or-assoc, without}
 use Rattle.book.proofs.Pad.{zeros}
-use Rattle.sets.specs.Stepping.{hopFold, isEnd, stepArcs, arcBytes, SweptAll, ArcStands, between, Added, SweptRow, Stepped, gather, sideArcs, closeBy}
-use Rattle.sets.specs.Sides.{sideFirst, sideStep, SideMasks}
+use Rattle.sets.specs.Stepping.{hopFold, isEnd, stepArcs, arcBytes, SweptAll, ArcStands, between, Added, SweptRow}
+use Rattle.sets.specs.Stepping.{Stepped, Blank, gather, sideArcs, closeBy}
+use Rattle.sets.specs.Sides.{sideFirst, sideStep}
 use Rattle.sets.proofs.Ends.{end-is, end-byte, end-small, turned-bytes}
 use Rattle.sets.proofs.Sweep.{Sweeping, Stepping, sweep-start, sweep-ends, sweep-arc, sweep-turn-arc, sweep-turn-state, sweep-end, sweep-none}
 use Rattle.sets.proofs.Sweep.{stepping-start, stepping-end, turn-done, turn-none, turn-swept}
@@ -181,9 +183,9 @@ module _ (p q : ℕ) where
     pub sweep-row-none : recordSize (byte s at) ≡ 0 → SweptRow p q (B .arcs) state set next row₀ row
     sweep-row-none e = swept (λ a. sweep-none p q s B state set a (i .more a) at next (i .sweeping a) e)
 
-  pub step-row-start : (arcs : List Arc) (set : ℕ) → set < 2 ^ 64 → SteppingRow p q arcs set set 0 (replicate symbolCount 0)
-  step-row-start arcs set h =
-      record { long = refl; each = λ a l. subst (λ n. Stepping p q arcs set a set n 0) (sym (zeros symbolCount a)) (stepping-start p q arcs set a h) }
+  pub step-row-start : (arcs : List Arc) (set : ℕ) (row : List ℕ) → set < 2 ^ 64 → Blank row → SteppingRow p q arcs set set 0 row
+  step-row-start arcs set row h w =
+      record { long = w .long; each = λ a l. subst (λ n. Stepping p q arcs set a set n 0) (sym (w .each a l)) (stepping-start p q arcs set a h) }
 
   module _ (arcs : List Arc) (set left done : ℕ) (row : List ℕ) (i : SteppingRow p q arcs set left done row) where
     pub row-small : left < 2 ^ 64
@@ -209,6 +211,10 @@ module _ (p q : ℕ) where
                 (turn-swept p q arcs set a left (getD row a 0) done h (i .each a g) (w .more a) next (w .swept a));
           }
 
+-- a row of zeros
+pub blank : Blank (replicate symbolCount 0)
+blank = record { long = refl; each = λ a l. zeros symbolCount a }
+
 -- the row of either side
 pub row-right : (back : Bool) (arcs : List Arc) (x : ℕ) (row : List ℕ) → back ≡ true
     → Stepped (stepArcs toAt fromAt arcs x) row → Stepped (sideArcs back arcs x) row
@@ -221,32 +227,33 @@ unfolding sideArcs
 row-left back arcs x row e w = rw e (record { long = w .long; each = w .each })
 
 -- what becomes of a step on either side
-module _ (leftStarts rightAccepts : ℕ) (rightStarts focusAccepts : List ℕ) (back : Bool) (x : ℕ) where
-  pub close-right : (given : ℕ) → back ≡ true → given ≡ gather mostRules (bitOr rightAccepts x) rightStarts focusAccepts
-      → bitOr (bitOr rightAccepts x) given ≡ closeBy leftStarts rightAccepts rightStarts focusAccepts back x
+module _ (masks : List ℕ) (back : Bool) (x : ℕ) where
+  pub close-right : (given : ℕ) → back ≡ true
+      → given ≡ gather mostRules (bitOr (getD masks rightAccepts 0) x) (λ r. getD masks (rightStarts r) 0) (λ r. getD masks (focusAccepts r) 0)
+      → bitOr (bitOr (getD masks rightAccepts 0) x) given ≡ closeBy masks back x
   unfolding closeBy
-  close-right given e f = rw e (ap (bitOr (bitOr rightAccepts x)) f)
+  close-right given e f = rw e (ap (bitOr (bitOr (getD masks rightAccepts 0) x)) f)
 
-  pub close-left : back ≡ false → bitOr leftStarts x ≡ closeBy leftStarts rightAccepts rightStarts focusAccepts back x
+  pub close-left : back ≡ false → bitOr (getD masks leftStarts 0) x ≡ closeBy masks back x
   unfolding closeBy
   close-left e = rw e
 
 -- it is the side's set: after no symbol, and after one more
-module _ (b : Book) (o : Sound b) (leftStarts rightAccepts : ℕ) (rightStarts focusAccepts : List ℕ)
-    (m : SideMasks b leftStarts rightAccepts rightStarts focusAccepts) where
-  pub close-first : (back : Bool) → closeBy leftStarts rightAccepts rightStarts focusAccepts back 0 ≡ sideFirst b back
+module _ (b : Book) (o : Sound b) (masks : List ℕ) (m : Masked (b .states) masks) where
+  pub close-first : (back : Bool) → closeBy masks back 0 ≡ sideFirst b back
   unfolding closeBy sideFirst
   close-first true =
-      right-last b (bitOr rightAccepts 0) rightStarts focusAccepts o (or-zero-r rightAccepts ∙ m .right-accepts) (m .right-starts) (m .focus-accepts)
-  close-first false = or-zero-r leftStarts ∙ m .left-starts ∙ left-first b o
+      right-last b (bitOr (getD masks rightAccepts 0) 0) _ _ o
+      (or-zero-r (getD masks rightAccepts 0) ∙ m .right-accepts) (m .right-starts) (m .focus-accepts)
+  close-first false = or-zero-r (getD masks leftStarts 0) ∙ m .left-starts ∙ left-first b o
 
-  pub close-step : (back : Bool) (x a : ℕ) → closeBy leftStarts rightAccepts rightStarts focusAccepts back (sideArcs back (b .arcs) x a) ≡ sideStep b back x a
+  pub close-step : (back : Bool) (x a : ℕ) → closeBy masks back (sideArcs back (b .arcs) x a) ≡ sideStep b back x a
   unfolding closeBy sideArcs sideStep
   close-step true x a =
-      right-prev b x a (bitOr rightAccepts (stepArcs toAt fromAt (b .arcs) x a)) rightStarts focusAccepts o
+      right-prev b x a (bitOr (getD masks rightAccepts 0) (stepArcs toAt fromAt (b .arcs) x a)) _ _ o
       (ap (λ (y : ℕ). bitOr y (stepArcs toAt fromAt (b .arcs) x a)) (m .right-accepts)) (m .right-starts) (m .focus-accepts)
   close-step false x a = ap (λ (y : ℕ). bitOr y (stepArcs fromAt toAt (b .arcs) x a)) (m .left-starts) ∙ left-next b x a o
 
   pub close-row : (back : Bool) (x : ℕ) (row : List ℕ) → Stepped (sideArcs back (b .arcs) x) row → (a : ℕ) → a < symbolCount
-      → closeBy leftStarts rightAccepts rightStarts focusAccepts back (getD row a 0) ≡ sideStep b back x a
-  close-row back x row w a h = ap (closeBy leftStarts rightAccepts rightStarts focusAccepts back) (w .each a h) ∙ close-step back x a
+      → closeBy masks back (getD row a 0) ≡ sideStep b back x a
+  close-row back x row w a h = ap (closeBy masks back) (w .each a h) ∙ close-step back x a

@@ -4,9 +4,7 @@ use mathlib.Core.Path.{_≡_}
 use mathlib.Core.Bool.{Bool, cond}
 use mathlib.Core.List.{List, []}
 use lib.ListN.{length, take, drop}
-use Rattle.book.specs.Format.{leftPart, focusPart, rightPart, startFlag, acceptFlag}
 use Rattle.book.specs.Reading.{Book}
-use Rattle.book.specs.Outline.{EachMask, allMask}
 use Rattle.sets.specs.Sets.{leftFirst, leftNext, rightLast, rightPrev}
 use Rattle.sets.specs.Numbering.{mostSets, pairs, Table, all, pad}
 
@@ -18,14 +16,6 @@ sideStep b back set a = cond back (rightPrev b set a) (leftNext b set a)
 
 unfoldable pub sideTable : Book → Bool → Table
 sideTable b back = all (sideStep b back) (sideFirst b back)
-
--- what is taken from an accepted book once, for all its steps: the set of all left starts and of all right accepts, and of each rule the
--- right starts and the focus accepts
-pub record SideMasks (b : Book) (leftStarts rightAccepts : ℕ) (rightStarts focusAccepts : List ℕ) : Type 0 where
-  pub left-starts : leftStarts ≡ allMask leftPart startFlag (b .states)
-  pub right-accepts : rightAccepts ≡ allMask rightPart acceptFlag (b .states)
-  pub right-starts : EachMask rightPart startFlag (b .states) rightStarts
-  pub focus-accepts : EachMask focusPart acceptFlag (b .states) focusAccepts
 
 -- the rows and the sets of a side, all 0
 pub record Clear (R S : List ℕ) : Type 0 where

@@ -9,6 +9,7 @@ use lib.Bits.{bitOr, bitAnd}
 use lib.ListN.{length, getD}
 use Rattle.book.specs.Format.{symbolCount, mostRules, mostStates, arcSize, fromAt, lowAt, highAt, toAt, byte}
 use Rattle.book.specs.Reading.{Arc}
+use Rattle.book.specs.Outline.{leftStarts, rightAccepts, rightStarts, focusAccepts}
 use Rattle.book.specs.StateSets.{member}
 
 -- the arc leaves a state of the set and is open to the symbol
@@ -81,21 +82,26 @@ pub record Stepped (step : ℕ → ℕ) (row : List ℕ) : Type 0 where
   pub long : length row ≡ symbolCount
   pub each : (a : ℕ) → a < symbolCount → getD row a 0 ≡ step a
 
+-- the row is all 0
+abbrev pub Blank : List ℕ → Type 0
+Blank = Stepped (λ a. 0)
+
 -- what a rule gives to a set that meets its test, and what the first n rules give
 abbrev pub joins : ℕ → ℕ → ℕ → ℕ
 joins set test give = cond (eqb (bitAnd set test) 0) 0 give
 
-unfoldable pub gather : ℕ → ℕ → List ℕ → List ℕ → ℕ
+unfoldable pub gather : ℕ → ℕ → (ℕ → ℕ) → (ℕ → ℕ) → ℕ
 gather zero set tests gives = 0
-gather (suc n) set tests gives = bitOr (gather n set tests gives) (joins set (getD tests n 0) (getD gives n 0))
+gather (suc n) set tests gives = bitOr (gather n set tests gives) (joins set (tests n) (gives n))
 
 -- the step of a set on either side, `back` for the right one: along the arcs on the left, against them on the right
 unfoldable pub sideArcs : Bool → List Arc → ℕ → ℕ → ℕ
 sideArcs back arcs set a = cond back (stepArcs toAt fromAt arcs set a) (stepArcs fromAt toAt arcs set a)
 
 -- what becomes of such a step: the left starts are added; or the right accepts, and what the rules' masks then give
-unfoldable pub closeBy : ℕ → ℕ → List ℕ → List ℕ → Bool → ℕ → ℕ
-closeBy leftStarts rightAccepts rightStarts focusAccepts back x =
+unfoldable pub closeBy : List ℕ → Bool → ℕ → ℕ
+closeBy masks back x =
     cond back
-    (bitOr (bitOr rightAccepts x) (gather mostRules (bitOr rightAccepts x) rightStarts focusAccepts))
-    (bitOr leftStarts x)
+    (bitOr (bitOr (getD masks rightAccepts 0) x)
+    (gather mostRules (bitOr (getD masks rightAccepts 0) x) (λ r. getD masks (rightStarts r) 0) (λ r. getD masks (focusAccepts r) 0)))
+    (bitOr (getD masks leftStarts 0) x)

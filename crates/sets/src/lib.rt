@@ -1,12 +1,10 @@
 // BUILD: the two automata of a book.
 ghost use mathlib.Core.Path.{_≡_};
-ghost use mathlib.Core.Bool.{true, false};
 ghost use Prim.Native.Nat.{_≤_};
 ghost use lib.ListN.{length};
 ghost use Rattle.book.specs.Reading.{checkDef, bookOf};
-ghost use Rattle.book.specs.Outline.{Placed};
-ghost use Rattle.sets.specs.Workspace.{rowBytes, setWords, refusal, buildLeaves, numbered, buildDef};
-ghost use Rattle.sets.specs.Sides.{sideTable, SideMasks};
+ghost use Rattle.book.specs.Outline.{Placed, Masked};
+ghost use Rattle.sets.specs.Workspace.{rowBytes, setWords, refusal, buildLeaves, buildDef};
 
 pub mod stepping; // stepping.rt: the step of a set
 pub mod entries; // entries.rt: reading a built workspace
@@ -43,54 +41,27 @@ fn refused(reply: u8, place: usize) -> Built
     }
 }
 
-// Both sides of an accepted book, into a workspace that is long enough: left, then right; 13 and 14 clear both.
-fn number_both(
+// Both sides of an accepted book, into a workspace that is long enough: left, then right; 13 and 14 clear both. Public, and with a `requires`:
+// who has checked the book and has its outline, as REWRITE and ACCOUNT have for their passes, lends it, and it is neither checked nor read once more.
+pub fn number_both(
     book: &[u8],
     places: &[u16; book::STATES],
-    left_starts: u64,
-    right_accepts: u64,
-    right_starts: &[u64; book::RULES],
-    focus_accepts: &[u64; book::RULES],
+    masks: &[u64; book::outline::MASKS],
     rows: &mut [u8],
     sets: &mut [u64],
 ) -> Built
     requires { ⌜ checkDef (now book) .reply ≡ 0 ⌝ }
     requires { ⌜ Placed (bookOf (now book) .states) (now places) ⌝ }
-    requires { ⌜ SideMasks (bookOf (now book)) «left_starts» «right_accepts» (now «right_starts») (now «focus_accepts») ⌝ }
+    requires { ⌜ Masked (bookOf (now book) .states) (now masks) ⌝ }
     requires { ⌜ (rowBytes ≤ length (now rows)) × (setWords ≤ length (now sets)) ⌝ }
-    ensures { λ r. ⌜ buildLeaves r (now (rows .exit)) (now (sets .exit))
-        ≡ numbered (sideTable (bookOf (now (book .entry))) false) (sideTable (bookOf (now (book .entry))) true) (now (rows .entry)) (now (sets .entry)) ⌝ }
+    ensures { λ r. ⌜ buildLeaves r (now (rows .exit)) (now (sets .exit)) ≡ buildDef (now (book .entry)) (now (rows .entry)) (now (sets .entry)) ⌝ }
 {
-    let left = workspace::number_part(
-        book,
-        places,
-        left_starts,
-        right_accepts,
-        right_starts,
-        focus_accepts,
-        false,
-        rows,
-        sets,
-        0,
-        0,
-    );
+    let left = workspace::number_part(book, places, masks, false, rows, sets, 0, 0);
     if left > MOST_SETS {
         workspace::clear(rows, sets);
         return refused(13, 0);
     }
-    let right = workspace::number_part(
-        book,
-        places,
-        left_starts,
-        right_accepts,
-        right_starts,
-        focus_accepts,
-        true,
-        rows,
-        sets,
-        PAIRS,
-        MOST_SETS,
-    );
+    let right = workspace::number_part(book, places, masks, true, rows, sets, PAIRS, MOST_SETS);
     if right > MOST_SETS {
         workspace::clear(rows, sets);
         return refused(14, 0);
@@ -103,29 +74,17 @@ fn number_both(
     }
 }
 
-// The same, with what is taken from the book once for both sides: where each state's record stands, all left starts and all right accepts, and
-// the right starts and the focus accepts of each rule. Public, so that who has checked the book and the workspace himself, as the rewriter
-// has, need not have the book checked once more.
+// The same, with the outline, which is taken from the book once for both sides: where each state's record stands, and the masks. Public, so that
+// who has checked the book and the workspace himself, as HEAT has, need not have the book checked once more.
 pub fn number_book(book: &[u8], rows: &mut [u8], sets: &mut [u64]) -> Built
     requires { ⌜ checkDef (now book) .reply ≡ 0 ⌝ }
     requires { ⌜ (rowBytes ≤ length (now rows)) × (setWords ≤ length (now sets)) ⌝ }
     ensures { λ r. ⌜ buildLeaves r (now (rows .exit)) (now (sets .exit)) ≡ buildDef (now (book .entry)) (now (rows .entry)) (now (sets .entry)) ⌝ }
 {
-    let placed = book::outline::place_states(book);
-    let left_starts = book::outline::mask_states(book, book::LEFT, book::START);
-    let right_accepts = book::outline::mask_states(book, book::RIGHT, book::ACCEPT);
-    let right_starts = book::outline::mask_states(book, book::RIGHT, book::START);
-    let focus_accepts = book::outline::mask_states(book, book::FOCUS, book::ACCEPT);
-    number_both(
-        book,
-        &placed.places,
-        left_starts.all,
-        right_accepts.all,
-        &right_starts.each,
-        &focus_accepts.each,
-        rows,
-        sets,
-    )
+    let mut places = [0u16; book::STATES];
+    let mut masks = [0u64; book::outline::MASKS];
+    book::outline::outline_of(book, &mut places, &mut masks);
+    number_both(book, &places, &masks, rows, sets)
 }
 
 // Document 01's BUILD: any book, rows and sets get their reply.

@@ -1,14 +1,13 @@
 // The numbering of a side: nested loops over the numbered sets and the symbols, in turn. One function serves both sides; `back` is the
-// right one. Lent with the book: the places of its states, all left starts, all right accepts, and of each rule the right starts and the
-// focus accepts.
+// right one. Lent with the book: the places of its states, and its masks.
 ghost use mathlib.Core.Path.{_≡_};
 ghost use Prim.Native.Nat.{_≤_};
 ghost use lib.ListN.{length, take};
 ghost use Rattle.book.specs.Reading.{checkDef, bookOf};
-ghost use Rattle.book.specs.Outline.{Placed};
+ghost use Rattle.book.specs.Outline.{Placed, Masked};
 ghost use Rattle.sets.specs.Stepping.{closeBy};
 ghost use Rattle.sets.specs.Numbering.{idx};
-ghost use Rattle.sets.specs.Sides.{sideTable, SideMasks, Clear, Numbered};
+ghost use Rattle.sets.specs.Sides.{sideTable, Clear, Numbered};
 
 // The number of the set among the first `count`, or `count` where it is not met before.
 fn find(sets: &[u64], count: usize, set: u64) -> usize
@@ -29,10 +28,7 @@ fn find(sets: &[u64], count: usize, set: u64) -> usize
 
 // The number of the set that a step gives. Where the step is the last one, so is its number: nothing is closed and nothing is sought.
 fn number_of(
-    left_starts: u64,
-    right_accepts: u64,
-    right_starts: &[u64; book::RULES],
-    focus_accepts: &[u64; book::RULES],
+    masks: &[u64; book::outline::MASKS],
     back: bool,
     sets: &[u64],
     count: usize,
@@ -41,21 +37,13 @@ fn number_of(
     step: u64,
 ) -> usize
     requires { ⌜ count ≤ length (now sets) ⌝ }
-    requires { ⌜ number ≡ idx (take count (now sets)) (closeBy «left_starts» «right_accepts» (now «right_starts») (now «focus_accepts») back last) ⌝ }
-    ensures { λ r. ⌜ r ≡ idx (take count (now (sets .entry)))
-        (closeBy «left_starts» «right_accepts» (now («right_starts» .entry)) (now («focus_accepts» .entry)) back step) ⌝ }
+    requires { ⌜ number ≡ idx (take count (now sets)) (closeBy (now masks) back last) ⌝ }
+    ensures { λ r. ⌜ r ≡ idx (take count (now (sets .entry))) (closeBy (now (masks .entry)) back step) ⌝ }
 {
     if step == last {
         return number;
     }
-    let set = super::stepping::close(
-        left_starts,
-        right_accepts,
-        right_starts,
-        focus_accepts,
-        back,
-        step,
-    );
+    let set = super::stepping::close(masks, back, step);
     find(sets, count, set)
 }
 
@@ -64,28 +52,18 @@ fn number_of(
 pub(crate) fn number_sets(
     book: &[u8],
     places: &[u16; book::STATES],
-    left_starts: u64,
-    right_accepts: u64,
-    right_starts: &[u64; book::RULES],
-    focus_accepts: &[u64; book::RULES],
+    masks: &[u64; book::outline::MASKS],
     back: bool,
     rows: &mut [u8],
     sets: &mut [u64],
 ) -> usize
     requires { ⌜ checkDef (now book) .reply ≡ 0 ⌝ }
     requires { ⌜ Placed (bookOf (now book) .states) (now places) ⌝ }
-    requires { ⌜ SideMasks (bookOf (now book)) «left_starts» «right_accepts» (now «right_starts») (now «focus_accepts») ⌝ }
+    requires { ⌜ Masked (bookOf (now book) .states) (now masks) ⌝ }
     requires { ⌜ Clear (now rows) (now sets) ⌝ }
     ensures { λ r. ⌜ Numbered (sideTable (bookOf (now (book .entry))) back) r (now (rows .exit)) (now (sets .exit)) ⌝ }
 {
-    sets[0] = super::stepping::close(
-        left_starts,
-        right_accepts,
-        right_starts,
-        focus_accepts,
-        back,
-        0,
-    );
+    sets[0] = super::stepping::close(masks, back, 0);
     let mut count: usize = 1;
     let mut k: usize = 0;
     let mut last: u64 = 0;
@@ -94,35 +72,18 @@ pub(crate) fn number_sets(
         if k == count {
             break count;
         }
-        let row = super::stepping::side_row(book, places, back, sets[k]);
+        let mut row = [0u64; super::ROW];
+        super::stepping::side_row(book, places, back, sets[k], &mut row);
         let mut symbol: u8 = 0;
         while symbol < book::SYMBOLS {
-            let step = row.each[symbol as usize];
-            number = number_of(
-                left_starts,
-                right_accepts,
-                right_starts,
-                focus_accepts,
-                back,
-                sets,
-                count,
-                last,
-                number,
-                step,
-            );
+            let step = row[symbol as usize];
+            number = number_of(masks, back, sets, count, last, number, step);
             last = step;
             if number == count {
                 if count == super::MOST_SETS {
                     break 'all super::MOST_SETS + 1;
                 }
-                sets[count] = super::stepping::close(
-                    left_starts,
-                    right_accepts,
-                    right_starts,
-                    focus_accepts,
-                    back,
-                    step,
-                );
+                sets[count] = super::stepping::close(masks, back, step);
                 count += 1;
             }
             rows[super::ROW * k + symbol as usize] = number as u8;

@@ -5,14 +5,14 @@
 ghost use mathlib.Core.Path.{_≡_};
 ghost use mathlib.Core.Bool.{true};
 ghost use Prim.Native.Nat.{_+_, _<_, _≤_};
-ghost use lib.ListN.{length};
+ghost use lib.ListN.{length, getD};
 ghost use Rattle.book.specs.Format.{symbolCount, mostRules, mostStates, arcSize, fromAt, toAt, byte};
 ghost use Rattle.book.specs.Reading.{arcAt, checkDef, bookOf};
 ghost use Rattle.book.specs.Language.{stateOf};
-ghost use Rattle.book.specs.Outline.{Placed};
+ghost use Rattle.book.specs.Outline.{Placed, rightStarts, focusAccepts};
 ghost use Rattle.sets.specs.Focus.{focusStep, focusNext};
-ghost use Rattle.sets.specs.Stepping.{hopFold, isEnd, stepArcs, arcBytes, ArcStands, SweptAll, between, Added, SweptRow, Stepped};
-ghost use Rattle.sets.specs.Stepping.{joins, gather, sideArcs, closeBy};
+ghost use Rattle.sets.specs.Stepping.{hopFold, isEnd, stepArcs, arcBytes, ArcStands, SweptAll, between, Added, SweptRow};
+ghost use Rattle.sets.specs.Stepping.{Stepped, Blank, joins, gather, sideArcs, closeBy};
 
 // What the records after a state's own give, to the end of its rule.
 pub struct Swept {
@@ -97,22 +97,23 @@ fn joins(set: u64, test: u64, give: u64) -> u64
     if set & test == 0 { 0 } else { give }
 }
 
-// Of each rule whose test the set meets, what it gives.
-fn gather(set: u64, tests: &[u64; book::RULES], gives: &[u64; book::RULES]) -> u64
-    ensures { λ r. ⌜ r ≡ gather mostRules set (now (tests .entry)) (now (gives .entry)) ⌝ }
+// Of each rule whose right starts the set meets, the focus accepts.
+fn gather(set: u64, masks: &[u64; book::outline::MASKS]) -> u64
+    ensures { λ r. ⌜ r
+        ≡ gather mostRules set (λ k. getD (now (masks .entry)) (rightStarts k) 0) (λ k. getD (now (masks .entry)) (focusAccepts k) 0) ⌝ }
 {
     let mut out: u64 = 0;
     let mut rule: usize = 0;
     while rule < book::RULES {
-        out = out | joins(set, tests[rule], gives[rule]);
+        out = out
+            | joins(
+                set,
+                masks[book::outline::RIGHT_STARTS + rule],
+                masks[book::outline::FOCUS_ACCEPTS + rule],
+            );
         rule += 1;
     }
     out
-}
-
-// The steps of a set on all symbols.
-pub struct Row {
-    pub each: [u64; super::ROW], // the step on each symbol, any set of states: the numbering closes it and looks for its number
 }
 
 // One bit more on each symbol from `low` to `high`.
@@ -188,20 +189,21 @@ fn sweep_row(
     }
 }
 
-// The steps of a set on all symbols, lowest state first, as `focus_step` has them on one.
+// The steps of a set on all symbols, into a row that is all 0: lowest state first, as `focus_step` has them on one.
 fn step_row(
     book: &[u8],
     places: &[u16; book::STATES],
     source: usize,
     target: usize,
     set: u64,
-) -> Row
+    row: &mut [u64; super::ROW],
+)
     requires { ⌜ checkDef (now book) .reply ≡ 0 ⌝ }
     requires { ⌜ Placed (bookOf (now book) .states) (now places) ⌝ }
     requires { ⌜ (isEnd source ≡ true) × (isEnd target ≡ true) ⌝ }
-    ensures { λ r. ⌜ Stepped (stepArcs source target (bookOf (now (book .entry)) .arcs) set) (r .each) ⌝ }
+    requires { ⌜ Blank (now row) ⌝ }
+    ensures { λ _. ⌜ Stepped (stepArcs source target (bookOf (now (book .entry)) .arcs) set) (now (row .exit)) ⌝ }
 {
-    let mut row = [0u64; super::ROW];
     let mut left = set;
     let mut done: usize = 0;
     while left != 0 {
@@ -210,42 +212,43 @@ fn step_row(
         if done <= state { // its rule has not been read
             let place = places[state] as usize;
             if place != 0 {
-                done = sweep_row(book, place, state, source, target, set, &mut row);
+                done = sweep_row(book, place, state, source, target, set, row);
             }
         }
     }
-    Row { each: row }
 }
 
-// The row of a set on either side, `back` for the right one: along the arcs on the left, against them on the right.
-pub(crate) fn side_row(book: &[u8], places: &[u16; book::STATES], back: bool, set: u64) -> Row
+// The row of a set on either side, `back` for the right one: along the arcs on the left, against them on the right. Its caller lends a row
+// that is all 0, and closes each step in it.
+pub(crate) fn side_row(
+    book: &[u8],
+    places: &[u16; book::STATES],
+    back: bool,
+    set: u64,
+    row: &mut [u64; super::ROW],
+)
     requires { ⌜ checkDef (now book) .reply ≡ 0 ⌝ }
     requires { ⌜ Placed (bookOf (now book) .states) (now places) ⌝ }
-    ensures { λ r. ⌜ Stepped (sideArcs back (bookOf (now (book .entry)) .arcs) set) (r .each) ⌝ }
+    requires { ⌜ Blank (now row) ⌝ }
+    ensures { λ _. ⌜ Stepped (sideArcs back (bookOf (now (book .entry)) .arcs) set) (now (row .exit)) ⌝ }
 {
     if back {
-        return step_row(book, places, book::TO, book::FROM, set);
+        step_row(book, places, book::TO, book::FROM, set, row);
+        return;
     }
-    step_row(book, places, book::FROM, book::TO, set)
+    step_row(book, places, book::FROM, book::TO, set, row);
 }
 
 // What becomes of such a step. On the left all left starts are added, which begin anew at each position; on the right all right accepts are
 // added, and a focus is closed where the right context of its own rule holds, by the right starts and the focus accepts of each rule.
-pub(crate) fn close(
-    left_starts: u64,
-    right_accepts: u64,
-    right_starts: &[u64; book::RULES],
-    focus_accepts: &[u64; book::RULES],
-    back: bool,
-    step: u64,
-) -> u64
-    ensures { λ r. ⌜ r ≡ closeBy «left_starts» «right_accepts» (now («right_starts» .entry)) (now («focus_accepts» .entry)) back step ⌝ }
+pub(crate) fn close(masks: &[u64; book::outline::MASKS], back: bool, step: u64) -> u64
+    ensures { λ r. ⌜ r ≡ closeBy (now (masks .entry)) back step ⌝ }
 {
     if back {
-        let near = right_accepts | step;
-        return near | gather(near, right_starts, focus_accepts);
+        let near = masks[book::outline::RIGHT_ACCEPTS] | step;
+        return near | gather(near, masks);
     }
-    left_starts | step
+    masks[book::outline::LEFT_STARTS] | step
 }
 
 // The focus states one symbol on, those that the right set there holds. An arc is read only from a book that CHECK accepted; the places

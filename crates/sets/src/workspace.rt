@@ -4,10 +4,10 @@ ghost use mathlib.Core.List.{[], _++_};
 ghost use Prim.Native.Nat.{_+_, _≤_};
 ghost use lib.ListN.{length, drop};
 ghost use Rattle.book.specs.Reading.{checkDef, bookOf};
-ghost use Rattle.book.specs.Outline.{Placed};
+ghost use Rattle.book.specs.Outline.{Placed, Masked};
 ghost use Rattle.sets.specs.Numbering.{mostSets, pairs, pad};
 ghost use Rattle.sets.specs.Workspace.{rowBytes, setWords};
-ghost use Rattle.sets.specs.Sides.{sideTable, SideMasks, Numbered, NumberedAt};
+ghost use Rattle.sets.specs.Sides.{sideTable, Numbered, NumberedAt};
 
 fn clear_rows(rows: &mut [u8])
     ensures { λ _. ⌜ now (rows .exit) ≡ pad (length (now (rows .entry))) [] ⌝ }
@@ -43,43 +43,27 @@ pub(crate) fn clear(rows: &mut [u8], sets: &mut [u64])
 fn number_side(
     book: &[u8],
     places: &[u16; book::STATES],
-    left_starts: u64,
-    right_accepts: u64,
-    right_starts: &[u64; book::RULES],
-    focus_accepts: &[u64; book::RULES],
+    masks: &[u64; book::outline::MASKS],
     back: bool,
     rows: &mut [u8],
     sets: &mut [u64],
 ) -> usize
     requires { ⌜ checkDef (now book) .reply ≡ 0 ⌝ }
     requires { ⌜ Placed (bookOf (now book) .states) (now places) ⌝ }
-    requires { ⌜ SideMasks (bookOf (now book)) «left_starts» «right_accepts» (now «right_starts») (now «focus_accepts») ⌝ }
+    requires { ⌜ Masked (bookOf (now book) .states) (now masks) ⌝ }
     requires { ⌜ (length (now rows) ≡ pairs) × (length (now sets) ≡ mostSets) ⌝ }
     ensures { λ r. ⌜ Numbered (sideTable (bookOf (now (book .entry))) back) r (now (rows .exit)) (now (sets .exit)) ⌝ }
 {
     clear_rows(rows);
     clear_sets(sets);
-    super::numbering::number_sets(
-        book,
-        places,
-        left_starts,
-        right_accepts,
-        right_starts,
-        focus_accepts,
-        back,
-        rows,
-        sets,
-    )
+    super::numbering::number_sets(book, places, masks, back, rows, sets)
 }
 
 // One side, at its place in the workspace.
 pub(crate) fn number_part(
     book: &[u8],
     places: &[u16; book::STATES],
-    left_starts: u64,
-    right_accepts: u64,
-    right_starts: &[u64; book::RULES],
-    focus_accepts: &[u64; book::RULES],
+    masks: &[u64; book::outline::MASKS],
     back: bool,
     rows: &mut [u8],
     sets: &mut [u64],
@@ -88,7 +72,7 @@ pub(crate) fn number_part(
 ) -> usize
     requires { ⌜ checkDef (now book) .reply ≡ 0 ⌝ }
     requires { ⌜ Placed (bookOf (now book) .states) (now places) ⌝ }
-    requires { ⌜ SideMasks (bookOf (now book)) «left_starts» «right_accepts» (now «right_starts») (now «focus_accepts») ⌝ }
+    requires { ⌜ Masked (bookOf (now book) .states) (now masks) ⌝ }
     requires { ⌜ (row + pairs ≤ length (now rows)) × (set + mostSets ≤ length (now sets)) ⌝ }
     ensures { λ r. ⌜ NumberedAt (sideTable (bookOf (now (book .entry))) back) r row set (now (rows .entry)) (now (sets .entry))
         (now (rows .exit)) (now (sets .exit)) ⌝ }
@@ -96,10 +80,7 @@ pub(crate) fn number_part(
     number_side(
         book,
         places,
-        left_starts,
-        right_accepts,
-        right_starts,
-        focus_accepts,
+        masks,
         back,
         &mut rows[row..row + super::PAIRS],
         &mut sets[set..set + super::MOST_SETS],

@@ -24,7 +24,6 @@ pub mod Batches
 -- Laws of the passes over a tape, position after position: that the sets find the candidates, and that what is found is what is taken.
 pub mod NoEmpty
 pub mod CandidateSets
-pub mod Outlines
 pub mod Meets
 pub mod Pruned
 pub mod Scans

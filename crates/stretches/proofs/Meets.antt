@@ -14,11 +14,12 @@ use lib.ListN.{length, getD}
 use Rattle.book.specs.Format.{mostRules, focusPart, rightPart}
 use Rattle.book.specs.Reading.{Book}
 use Rattle.book.specs.Language.{upFrom}
+use Rattle.book.specs.Outline.{leftAccepts, focusStarts, focusAccepts, rightStarts, allStarts, allAccepts}
 use Rattle.sets.specs.Focus.{meetsAccept, meetsStart, focusFirst, openedBy, openedBelow}
 use Rattle.sets.proofs.Meaning as Meaning
 use Rattle.sets.proofs.Meaning.{accept-mask, start-mask, accept-none, opened-mask, below-none, below-more, below-all}
 use Rattle.stretches.specs.Candidates.{firstOf}
-use Rattle.stretches.specs.Ready.{leftAccepts, focusStarts, focusAccepts, rightStarts, allStarts, allAccepts, Tests}
+use Rattle.stretches.specs.Ready.{Tests}
 use Rattle.stretches.specs.Position.{hits, noRule, hitRule}
 use Rattle.stretches.proofs.First.{first-none}
 
@@ -32,10 +33,10 @@ module _ (b : Book) (n : ℕ) (masks : List ℕ) (m : Tests b n masks) where
     low = omega (arith, few)
 
     accepting : meetsAccept b r focusPart X ≡ not (eqb (bitAnd X (getD masks (focusAccepts r) 0)) 0)
-    accepting = accept-mask b (m .sound) r focusPart X ∙ ap (λ (y : ℕ). not (eqb (bitAnd X y) 0)) (sym (m .focus-accepts r low))
+    accepting = accept-mask b (m .sound) r focusPart X ∙ ap (λ (y : ℕ). not (eqb (bitAnd X y) 0)) (sym (m .masked .focus-accepts r low))
 
     starting : meetsStart b r rightPart R ≡ not (eqb (bitAnd R (getD masks (rightStarts r) 0)) 0)
-    starting = start-mask b (m .sound) r rightPart R ∙ ap (λ (y : ℕ). not (eqb (bitAnd R y) 0)) (sym (m .right-starts r low))
+    starting = start-mask b (m .sound) r rightPart R ∙ ap (λ (y : ℕ). not (eqb (bitAnd R y) 0)) (sym (m .masked .right-starts r low))
 
     pub miss-focus : bitAnd X (getD masks (focusAccepts r) 0) ≡ 0 → false ≡ hits b X R r
     unfolding hits
@@ -52,7 +53,8 @@ module _ (b : Book) (n : ℕ) (masks : List ℕ) (m : Tests b n masks) where
   -- no rule at an end: the set holds no focus accept at all
   pub none-hits : (X R : ℕ) → bitAnd X (getD masks allAccepts 0) ≡ 0 → (r : ℕ) → hits b X R r ≡ false
   unfolding hits
-  none-hits X R e r = ap (λ (c : Bool). c && meetsStart b r rightPart R) (accept-none b (m .sound) r focusPart X (sym (ap (bitAnd X) (m .all-accepts)) ∙ e))
+  none-hits X R e r =
+      ap (λ (c : Bool). c && meetsStart b r rightPart R) (accept-none b (m .sound) r focusPart X (sym (ap (bitAnd X) (m .masked .all-accepts)) ∙ e))
 
   pub miss-all : (X R : ℕ) → bitAnd X (getD masks allAccepts 0) ≡ 0 → noRule ≡ hitRule b X R
   unfolding hitRule
@@ -60,14 +62,14 @@ module _ (b : Book) (n : ℕ) (masks : List ℕ) (m : Tests b n masks) where
 
   -- nothing starts: the right set holds no focus start at all
   pub none-first : (L R : ℕ) → bitAnd R (getD masks allStarts 0) ≡ 0 → 0 ≡ focusFirst b L R
-  none-first L R e = sym (Meaning.first-none b (m .sound) L R (sym (ap (bitAnd R) (m .all-starts)) ∙ e))
+  none-first L R e = sym (Meaning.first-none b (m .sound) L R (sym (ap (bitAnd R) (m .masked .all-starts)) ∙ e))
 
   -- what one rule opens, by its masks
   module _ (L r : ℕ) (known : r < n) where
     opening : openedBy b L r ≡ cond (eqb (bitAnd L (getD masks (leftAccepts r) 0)) 0) 0 (getD masks (focusStarts r) 0)
     opening =
         let low : r < mostRules = omega (arith, few) in
-        opened-mask b (m .sound) L r ∙ sym (ap₂ (λ (x y : ℕ). cond (eqb (bitAnd L x) 0) 0 y) (m .left-accepts r low) (m .focus-starts r low))
+        opened-mask b (m .sound) L r ∙ sym (ap₂ (λ (x y : ℕ). cond (eqb (bitAnd L x) 0) 0 y) (m .masked .left-accepts r low) (m .masked .focus-starts r low))
 
     pub open-not : bitAnd L (getD masks (leftAccepts r) 0) ≡ 0 → 0 ≡ openedBy b L r
     open-not e = rw (opening, eq-eqb _ _ e)

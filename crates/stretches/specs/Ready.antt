@@ -1,13 +1,13 @@
 -- What the forward passes stand on, and nothing else of the builder: an accepted book, its outline, and a tape with workspace and scratch that
 -- say which set stands where.
-use Prim.Native.Nat.{ℕ, _+_, _*_, _≤_, _<_}
+use Prim.Native.Nat.{ℕ, _+_, _≤_, _<_}
 use mathlib.Core.Path.{_≡_}
 use mathlib.Core.List.{List}
 use lib.ListN.{length, getD}
-use Rattle.book.specs.Format.{symbolCount, mostRules, leftPart, focusPart, rightPart, startFlag, acceptFlag}
-use Rattle.book.specs.Reading.{State, Book, checkDef, bookOf}
+use Rattle.book.specs.Format.{symbolCount}
+use Rattle.book.specs.Reading.{Book, checkDef, bookOf}
 use Rattle.book.specs.Sound.{Sound}
-use Rattle.book.specs.Outline.{Placed, WordsAt, ruleMask, allMask}
+use Rattle.book.specs.Outline.{Placed, WordsAt, Masked}
 use Rattle.sets.specs.Sets.{leftFirst, leftNext, rightAt}
 use Rattle.sets.specs.Focus.{focusStep}
 use Rattle.sets.specs.Numbering.{mostSets}
@@ -15,54 +15,14 @@ use Rattle.sets.specs.Workspace.{rowBytes, setWords}
 use Rattle.sets.specs.Tables.{leftCount, leftEntry, leftSet, rightSet}
 use Rattle.stretches.specs.Buffers.{longestTape}
 
--- the masks of the rules, one kind after the other, one a rule: where the left accepts, the focus starts, the focus accepts and the right
--- starts of rule r stand; then the focus starts and the focus accepts of all rules
-abbrev pub leftAccepts : ℕ → ℕ
-leftAccepts r = r
-
-abbrev pub focusStarts : ℕ → ℕ
-focusStarts r = mostRules + r
-
-abbrev pub focusAccepts : ℕ → ℕ
-focusAccepts r = 2 * mostRules + r
-
-abbrev pub rightStarts : ℕ → ℕ
-rightStarts r = 3 * mostRules + r
-
-abbrev pub allStarts : ℕ
-allStarts = 4 * mostRules
-
-abbrev pub allAccepts : ℕ
-allAccepts = allStarts + 1
-
-abbrev pub maskCount : ℕ
-maskCount = allStarts + 2
-
--- the masks of one part and flag are put from `at` on, and no others change
-pub record KindPut (part flag : ℕ) (states : List State) (at : ℕ) (l₀ l : List ℕ) : Type 0 where
-  pub here : (r : ℕ) → r < mostRules → getD l (at + r) 0 ≡ ruleMask part flag states r
-  pub low : (k : ℕ) → k < at → getD l k 0 ≡ getD l₀ k 0
-  pub high : (k : ℕ) → at + mostRules ≤ k → getD l k 0 ≡ getD l₀ k 0
-  pub same : length l ≡ length l₀
-
 -- what the masks say of an accepted book
 pub record Tests (b : Book) (rules : ℕ) (masks : List ℕ) : Type 0 where
   -- the book is one that CHECK accepts: the laws of its sets need it
   pub sound : Sound b
   -- the rules that are tested, 0 up to and not including this number, are the book's
   pub many : rules ≡ length (b .words)
-  -- a rule's left context holds at i exactly where the left set there meets this mask
-  pub left-accepts : (r : ℕ) → r < mostRules → getD masks (leftAccepts r) 0 ≡ ruleMask leftPart acceptFlag (b .states) r
-  -- then the walk from i starts with these states
-  pub focus-starts : (r : ℕ) → r < mostRules → getD masks (focusStarts r) 0 ≡ ruleMask focusPart startFlag (b .states) r
-  -- a stretch is in the rule's focus language exactly where the walk's set at its end meets this mask
-  pub focus-accepts : (r : ℕ) → r < mostRules → getD masks (focusAccepts r) 0 ≡ ruleMask focusPart acceptFlag (b .states) r
-  -- its right context holds at j exactly where the right set there meets this mask
-  pub right-starts : (r : ℕ) → r < mostRules → getD masks (rightStarts r) 0 ≡ ruleMask rightPart startFlag (b .states) r
-  -- where the right set does not meet it, no candidate starts
-  pub all-starts : getD masks allStarts 0 ≡ allMask focusPart startFlag (b .states)
-  -- where the walk's set does not meet it, no candidate ends
-  pub all-accepts : getD masks allAccepts 0 ≡ allMask focusPart acceptFlag (b .states)
+  -- the masks are those of its states, each where it belongs
+  pub masked : Masked (b .states) masks
 
 -- what is computed once from an accepted book
 pub record Outlined (b : Book) (rules : ℕ) (places masks : List ℕ) : Type 0 where

@@ -1,4 +1,3 @@
 // Which stretches of a tape are candidates, and what is taken at a position. The meaning of it all is in specs/.
-pub mod outline; // outline.rt: what the passes take once from an accepted book
 pub mod steps; // steps.rt: the steps of the focus that a pass remembers
 pub mod walk; // walk.rt: what is taken at one position

@@ -1,15 +1,15 @@
 // The walk from one position: the focus states of the stretches that begin there, pruned by the right set at every step, so that it ends
 // right after the longest candidate. One rule's focus is never carried on by another rule's left context.
-use crate::outline::ALL_ACCEPTS;
-use crate::outline::ALL_STARTS;
-use crate::outline::FOCUS_ACCEPTS;
-use crate::outline::FOCUS_STARTS;
-use crate::outline::LEFT_ACCEPTS;
-use crate::outline::MASKS;
-use crate::outline::RIGHT_STARTS;
 use crate::steps::SLOTS;
 use crate::steps::STEPS;
 use crate::steps::remembered;
+use book::outline::ALL_ACCEPTS;
+use book::outline::ALL_STARTS;
+use book::outline::FOCUS_ACCEPTS;
+use book::outline::FOCUS_STARTS;
+use book::outline::LEFT_ACCEPTS;
+use book::outline::MASKS;
+use book::outline::RIGHT_STARTS;
 use sets::entries::right_set;
 ghost use mathlib.Core.Path.{_≡_};
 ghost use Prim.Native.Nat.{_≤_, _<_};

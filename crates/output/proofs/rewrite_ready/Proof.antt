@@ -1,31 +1,20 @@
--- `output::rewrite_ready` meets its contract: the outline of the book is lent to both passes. Assumes nothing.
-use Prim.Native.Nat.{ℕ}
-use mathlib.Core.Path.{sym, subst}
+-- `output::rewrite_ready` meets its contract: to the outline the places of the rules are added, and both passes are lent them. Assumes nothing.
 use borrow.Author.Needs.{needs}
-use Rattle.book.specs.Reading.{bookOf}
+use mathlib.Core.Path.{sym}
+use Rattle.book.proofs.Pad.{pad-nil}
 use Rattle.book.proofs.Placing.{words-at}
-use Rattle.stretches.specs.Ready.{Outlined}
 use Rattle.output.proofs.rewrite_ready.Statement.{statement}
 use Rattle.output.proofs.rewrite_ready.Tie as tie
 
-outline-of-requires : tie.Need-outline-of-requires
-outline-of-requires c κs = search needs
-
 place-rules-requires : tie.Need-place-rules-requires
-place-rules-requires c κs = search needs
+place-rules-requires c κs =
+    (c .before .before .before .before .before .before .before .before .pre .1 .accepted, sym (pad-nil _))
 
 write-if-room-requires : tie.Need-write-if-room-requires
 write-if-room-requires c κs =
-    let place-rules = c .before .before .before .before .before .before .before .place-rules in
-    let b = c .before .before .before .before .before .before .before .before .before .before .before .before .before .before .before .before in
-    let a = b .args in
-    let o = c .before .before .before .before .before .before .before .before .outline-of in (
-      record {
-        outlined = subst (λ (n : ℕ). Outlined (bookOf (a .book .now)) n (o .result .places) (o .result .masks)) (sym (b .pre .1)) (o .ensures);
-        words-at = words-at (a .book .now) _ (b .pre .0 .accepted) (place-rules .ensures);
-      },
-      b .pre .0,
-    )
+    let s = c .before .before .before .before .before .before .before .before .before .before .before .before in
+    let w = words-at (s .args .book .now) _ (s .pre .1 .accepted) (c .before .before .before .place-rules .ensures) in
+    (record { outlined = s .pre .0; words-at = w }, s .pre .1)
 
 same-length : tie.Need-same-length
 same-length c = search needs
@@ -37,12 +26,4 @@ returns : tie.Need-returns
 returns c = search needs
 
 pub rewrite-ready-spec : {M : Type 1} → statement M
-rewrite-ready-spec =
-    tie.close
-    (tie.spec
-    outline-of-requires
-    place-rules-requires
-    write-if-room-requires
-    same-length
-    same-length-2
-    returns)
+rewrite-ready-spec = tie.close (tie.spec place-rules-requires write-if-room-requires same-length same-length-2 returns)

@@ -1,7 +1,7 @@
 -- `outline::place_rules` meets its contract: a second walk over the records of an accepted book, with the array of the places as far as it has
 -- come (`Placing`); an unknown kind is not met. Assumes nothing.
 use Prim.Native.Nat.{ℕ, _+_, _<_, _-_}
-use mathlib.Core.Path.{_≡_}
+use mathlib.Core.Path.{_≡_, _∙_}
 use mathlib.Core.Logic.{⊎-elim}
 use borrow.Author.Needs.{needs}
 use native.Mathlib.Omega.{arith}
@@ -9,6 +9,7 @@ use mathlib.Core.List.{List}
 use lib.ListN.{length, set, length-append}
 use Rattle.book.specs.Format.{mostRules, ruleKind, endKind, byte, recordSize}
 use Rattle.book.specs.Reading.{Book, scanOf, bookOf, withRecord}
+use Rattle.book.proofs.Pad.{pad-nil}
 use Rattle.book.proofs.Laws.{size-none, size-unknown}
 use Rattle.book.proofs.Passed.{rule-room}
 use Rattle.book.proofs.Walk.{Walk, walk-start, walk-passed, walk-more, words-rule, words-same}
@@ -17,8 +18,8 @@ use Rattle.book.proofs.outline.place_rules.Statement.{statement}
 use Rattle.book.proofs.outline.place_rules.Tie as tie
 
 abbrev Inv-loop : tie.InvT-loop
-Inv-loop s out₀ rules₀ at₀ out rules at =
-    (b : Book) × Walk s at b (bookOf s) × Placing ruleKind s mostRules at rules (out .places) (length (b .words))
+Inv-loop s places₀ rules₀ at₀ places rules at =
+    (b : Book) × Walk s at b (bookOf s) × Placing ruleKind s mostRules at rules places (length (b .words))
 
 -- a record more
 module _ (s : List ℕ) (at : ℕ) (b B : Book) (w : Walk s at b B) (n : ℕ) (l : List ℕ) (p : Placing ruleKind s mostRules at n l (length (b .words))) where
@@ -35,22 +36,23 @@ module _ (s : List ℕ) (at : ℕ) (b B : Book) (w : Walk s at b B) (n : ℕ) (l
       rw (words-same s at b k) (placing-other ruleKind s mostRules at n l _ (q .inside) f (q .known) k p)
 
 abbrev μ-loop : tie.MeasureT-loop
-μ-loop s out₀ rules₀ at₀ out rules at = length s - at
+μ-loop s places₀ rules₀ at₀ places rules at = length s - at
 
 loop-holds : tie.Need-loop-holds Inv-loop μ-loop
-loop-holds c = (_, walk-start _ (c .before .pre), placing-start ruleKind _ mostRules)
+loop-holds c =
+    let p = c .before .pre in (_, walk-start _ (p .0), rw (p .1 ∙ pad-nil mostRules) (placing-start ruleKind _ mostRules))
 
 shared-slice-read-kind : tie.Need-shared-slice-read-kind Inv-loop μ-loop
 shared-slice-read-kind c = walk-passed _ _ _ _ (c .before .loop .inv .1) .inside
 
-cast-out : tie.Need-cast-out Inv-loop μ-loop
-cast-out c = omega (arith, place-fits _ _ _ _ (c .before .before .loop .inv .1))
+cast-places : tie.Need-cast-places Inv-loop μ-loop
+cast-places c = omega (arith, place-fits _ _ _ _ (c .before .before .loop .inv .1))
 
-mul-out : tie.Need-mul-out Inv-loop μ-loop
-mul-out c = search needs
+mul-places : tie.Need-mul-places Inv-loop μ-loop
+mul-places c = search needs
 
-element-write-out : tie.Need-element-write-out Inv-loop μ-loop
-element-write-out c =
+element-write-places : tie.Need-element-write-places Inv-loop μ-loop
+element-write-places c =
     let i = c .before .before .loop .inv in
     let h = rule-room _ _ _ (walk-passed _ _ _ _ (i .1) .kind) (c .match .keys1) in
     omega (arith, i .2 .same)
@@ -115,9 +117,9 @@ place-rules-spec =
     μ-loop
     loop-holds
     shared-slice-read-kind
-    cast-out
-    mul-out
-    element-write-out
+    cast-places
+    mul-places
+    element-write-places
     add-rules
     returns
     returns-2

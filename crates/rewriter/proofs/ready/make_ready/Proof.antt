@@ -1,32 +1,26 @@
--- `rewriter::ready::make_ready` meets its contract: its three ways out are those of the definition. Assumes nothing.
-use Rattle.rewriter.proofs.MakeReady.{leaves-refused, opening-admitted, leaves-unbuilt, leaves-ready}
+-- `rewriter::ready::make_ready` meets its contract: not built, or ready, as the definition says; the outline by which it is built is the book's. Assumes
+-- nothing.
+use Rattle.rewriter.proofs.MakeReady.{opening-admitted, leaves-unbuilt, leaves-ready}
+use Rattle.book.proofs.Placing.{placed}
 use native.Mathlib.Omega.{arith}
 use borrow.Author.Needs.{needs}
 use Rattle.rewriter.proofs.ready.make_ready.Statement.{statement}
 use Rattle.rewriter.proofs.ready.make_ready.Tie as tie
 
-early-requires : tie.Need-early-requires
-early-requires c κs = search needs
-
-returns : tie.Need-returns
-returns c =
-    let s = c .before .before .before .before .before .before .before .before in
-    let early = c .before .before .early in
+outline-of-requires : tie.Need-outline-of-requires
+outline-of-requires c κs =
+    let s = c .before .before .before .before .before .before .before in
     let a = s .args in
-    leaves-refused (a .book .now) (a .tape .now) (a .rows .now) (a .sets .now) (a .scratch .now) (early .result) (early .ensures) (c .if1 .taken)
+    let p = opening-admitted (a .book .now) (a .tape .now) (a .rows .now) (a .sets .now) (a .scratch .now) (s .pre .0) in
+    (p .accepted, s .pre .1)
 
-number-book-requires : tie.Need-number-book-requires
-number-book-requires c κs =
-    let s = c .before .before .before .before .before .before .before .before .before .before in
-    let early = c .before .before .before .before .early in
+number-both-requires : tie.Need-number-both-requires
+number-both-requires c κs =
+    let s = c .before .before .before .before .before .before .before .before .before .before .before .before in
     let a = s .args in
-    let p =
-    opening-admitted (a .book .now) (a .tape .now) (a .rows .now) (a .sets .now) (a .scratch .now) (early .result) (early .ensures)
-    (c .before .before .if1 .left) in
-    (p .accepted, (p .rows-room, p .sets-room))
-
-answer-requires : tie.Need-answer-requires
-answer-requires c κs = search needs
+    let p = opening-admitted (a .book .now) (a .tape .now) (a .rows .now) (a .sets .now) (a .scratch .now) (s .pre .0) in
+    let o = c .before .before .before .before .outline-of .ensures in
+    (p .accepted, (placed _ _ (p .accepted) (o .0), (o .1, (p .rows-room, p .sets-room))))
 
 same-length : tie.Need-same-length
 same-length c = search needs
@@ -34,29 +28,27 @@ same-length c = search needs
 same-length-2 : tie.Need-same-length-2
 same-length-2 c = search needs
 
-returns-2 : tie.Need-returns-2
-returns-2 c =
-    let s = c .before .before .before .before .before .before .before .before .before .before .before .before .before .before .before .before .before .before in
-    let early = c .before .before .before .before .before .before .before .before .before .before .before .before .early in
-    let if1 = c .before .before .before .before .before .before .before .before .before .before .if1 in
-    let number-book = c .before .before .before .before .before .before .before .number-book in
+returns : tie.Need-returns
+returns c =
+    let s = c .before .before .before .before .before .before .before .before .before .before .before .before .before .before .before .before .before
+    .before .before in
     let a = s .args in
-    leaves-unbuilt (a .book .now) (a .tape .now) (a .rows .now) (a .sets .now) (a .scratch .now) (early .result) (early .ensures) (if1 .left)
-    (number-book .result) _ _ (number-book .ensures) (c .answer .result) (c .before .if2 .taken) (c .answer .ensures)
+    let p = opening-admitted (a .book .now) (a .tape .now) (a .rows .now) (a .sets .now) (a .scratch .now) (s .pre .0) in
+    let o = c .before .before .before .before .before .before .before .before .before .before .before .outline-of .ensures in
+    let both = c .before .before .before .before .before .before .number-both in (
+      leaves-unbuilt (a .book .now) (a .tape .now) (a .rows .now) (a .sets .now) (a .scratch .now) (s .pre .0) (both .result) _ _ (both .ensures)
+          (c .if1 .taken),
+      (placed _ _ (p .accepted) (o .0), o .1),
+    )
 
 backward-requires : tie.Need-backward-requires
 backward-requires c κs =
-    let half = c .before .before .before .before .before .before .before .before .before in
-    let s = half .before .before .before .before .before .before .before .before .before .before in
-    let early = c .before .before .before .before .before .before .before .before .before .before .before .before .before .early in
-    let if1 = c .before .before .before .before .before .before .before .before .before .before .before .if1 in
+    let s = c .before .before .before .before .before .before .before .before .before .before .before .before .before .before .before .before .before
+    .before .before .before .before in
     let a = s .args in
-    let p = opening-admitted (a .book .now) (a .tape .now) (a .rows .now) (a .sets .now) (a .scratch .now) (early .result) (early .ensures) (if1 .left) in
-    let built = c .before .before .before .before .before .before .before .before .number-book in
-    (p .scratch-room, (omega (arith, p .rows-room, built .kept), p .symbols))
-
-answer-requires-2 : tie.Need-answer-requires-2
-answer-requires-2 c κs = search needs
+    let p = opening-admitted (a .book .now) (a .tape .now) (a .rows .now) (a .sets .now) (a .scratch .now) (s .pre .0) in
+    let both = c .before .before .before .before .before .before .before .before .number-both in
+    (p .scratch-room, (omega (arith, p .rows-room, both .kept), p .symbols))
 
 same-length-3 : tie.Need-same-length-3
 same-length-3 c = search needs
@@ -67,33 +59,31 @@ same-length-4 c = search needs
 same-length-5 : tie.Need-same-length-5
 same-length-5 c = search needs
 
-returns-3 : tie.Need-returns-3
-returns-3 c =
-    let half = c .before .before .before .before .before .before .before .before .before .before .before in
-    let s = half .before .before .before .before .before .before .before .before .before .before .before .before in
-    let early =
-    c .before .before .before .before .before .before .before .before .before .before .before .before .before .before .before .before .before .early in
-    let if1 = c .before .before .before .before .before .before .before .before .before .before .before .before .before .before .before .if1 in
-    let number-book = c .before .before .before .before .before .before .before .before .before .before .before .before .number-book in
-    let if2 = c .before .before .before .before .before .before .if2 in
+returns-2 : tie.Need-returns-2
+returns-2 c =
+    let s = c .before .before .before .before .before .before .before .before .before .before .before .before .before .before .before .before .before
+    .before .before .before .before .before .before .before in
     let a = s .args in
-    leaves-ready (a .book .now) (a .tape .now) (a .rows .now) (a .sets .now) (a .scratch .now) (early .result) (early .ensures) (if1 .left)
-    (number-book .result) _ _ (number-book .ensures) (c .answer2 .result) (if2 .left) _ (c .before .before .before .backward .ensures) (c .answer2 .ensures)
+    let p = opening-admitted (a .book .now) (a .tape .now) (a .rows .now) (a .sets .now) (a .scratch .now) (s .pre .0) in
+    let o = c .before .before .before .before .before .before .before .before .before .before .before .before .before .before .before .before .outline-of
+    .ensures in
+    let both = c .before .before .before .before .before .before .before .before .before .before .before .number-both in (
+      leaves-ready (a .book .now) (a .tape .now) (a .rows .now) (a .sets .now) (a .scratch .now) (s .pre .0) (both .result) _ _ (both .ensures)
+          (c .before .before .before .before .before .if1 .left) _ (c .before .before .backward .ensures),
+      (placed _ _ (p .accepted) (o .0), o .1),
+    )
 
 pub make-ready-spec : {M : Type 1} → statement M
 make-ready-spec =
     tie.close
     (tie.spec
-    early-requires
-    returns
-    number-book-requires
-    answer-requires
+    outline-of-requires
+    number-both-requires
     same-length
     same-length-2
-    returns-2
+    returns
     backward-requires
-    answer-requires-2
     same-length-3
     same-length-4
     same-length-5
-    returns-3)
+    returns-2)

@@ -12,9 +12,7 @@ returns : tie.Need-returns
 returns c =
     let a = c .before .before .args in
     c .before .before .pre .1
-    ∙ ap
-    (λ (x : ℕ). idx (take (a .count) (a .sets .now)) (closeBy (a .left-starts) (a .right-accepts) (a .right-starts .now) (a .focus-accepts .now) (a .back) x))
-    (sym (c .if1 .taken))
+    ∙ ap (λ (x : ℕ). idx (take (a .count) (a .sets .now)) (closeBy (a .masks .now) (a .back) x)) (sym (c .if1 .taken))
 
 close-requires : tie.Need-close-requires
 close-requires c κs = search needs

@@ -12,7 +12,7 @@ use Rattle.book.proofs.Sound.{accepted-sound}
 use Rattle.sets.specs.Stepping.{closeBy}
 use Rattle.sets.specs.Numbering.{mostSets}
 use Rattle.sets.specs.Sides.{sideFirst, sideStep, sideTable}
-use Rattle.sets.proofs.Rows.{close-first, close-row}
+use Rattle.sets.proofs.Rows.{blank, close-first, close-row}
 use Rattle.sets.proofs.At.{Before, In, clear-rows, clear-sets, before-first, whole, too-many}
 use Rattle.sets.proofs.At.{in-first, in-last, in-new, in-old, in-full, new-small, old-small}
 use borrow.Author.Needs.{needs}
@@ -20,21 +20,21 @@ use Rattle.sets.proofs.numbering.number_sets.Statement.{statement}
 use Rattle.sets.proofs.numbering.number_sets.Tie as tie
 
 abbrev Inv-loop : tie.InvT-loop
-Inv-loop book places leftStarts rightAccepts rightStarts focusAccepts back rows₀ sets₀ count₀ k last₀ number₀ row symbol₀ rows sets count last number symbol =
-    In (sideStep (bookOf book) back) (closeBy leftStarts rightAccepts rightStarts focusAccepts back) (sideFirst (bookOf book) back)
-    k symbol (row .each) rows sets count last number
+Inv-loop book places masks back rows₀ sets₀ count₀ k last₀ number₀ row symbol₀ rows sets count last number symbol =
+    In (sideStep (bookOf book) back) (closeBy masks back) (sideFirst (bookOf book) back)
+    k symbol row rows sets count last number
 
 abbrev μ-loop : tie.MeasureT-loop
-μ-loop book places leftStarts rightAccepts rightStarts focusAccepts back rows₀ sets₀ count₀ k last₀ number₀ row symbol₀ rows sets count last number symbol =
+μ-loop book places masks back rows₀ sets₀ count₀ k last₀ number₀ row symbol₀ rows sets count last number symbol =
     symbolCount - symbol
 
 abbrev Inv-all : tie.InvT-all
-Inv-all book places leftStarts rightAccepts rightStarts focusAccepts back rows₀ sets₀ count₀ k₀ last₀ number₀ rows sets count k last number =
-    Before (sideStep (bookOf book) back) (closeBy leftStarts rightAccepts rightStarts focusAccepts back) (sideFirst (bookOf book) back)
+Inv-all book places masks back rows₀ sets₀ count₀ k₀ last₀ number₀ rows sets count k last number =
+    Before (sideStep (bookOf book) back) (closeBy masks back) (sideFirst (bookOf book) back)
     k rows sets count last number
 
 abbrev μ-all : tie.MeasureT-all
-μ-all book places leftStarts rightAccepts rightStarts focusAccepts back rows₀ sets₀ count₀ k₀ last₀ number₀ rows sets count k last number =
+μ-all book places masks back rows₀ sets₀ count₀ k₀ last₀ number₀ rows sets count k last number =
     mostSets - k
 
 close-requires : tie.Need-close-requires Inv-loop μ-loop Inv-all μ-all
@@ -47,7 +47,7 @@ all-holds : tie.Need-all-holds Inv-loop μ-loop Inv-all μ-all
 all-holds c =
     let p = c .before .before .before .before .pre in
     let x = c .close in
-    before-first _ _ _ _ _ _ (p .1 .1 .1) (x .ensures) (x .ensures ∙ close-first _ (accepted-sound _ _ (is-accepted _ (p .0))) _ _ _ _ (p .1 .1 .0) _)
+    before-first _ _ _ _ _ _ (p .1 .1 .1) (x .ensures) (x .ensures ∙ close-first _ (accepted-sound _ _ (is-accepted _ (p .0))) _ (p .1 .1 .0) _)
 
 mul-side-row : tie.Need-mul-side-row Inv-loop μ-loop Inv-all μ-all
 mul-side-row c = omega arith
@@ -56,13 +56,13 @@ slice-read-side-row : tie.Need-slice-read-side-row Inv-loop μ-loop Inv-all μ-a
 slice-read-side-row c = omega arith
 
 side-row-requires : tie.Need-side-row-requires Inv-loop μ-loop Inv-all μ-all
-side-row-requires c κs = let p = c .before .before .before .before .before .before .before .pre in (p .0, p .1 .0)
+side-row-requires c κs = let p = c .before .before .before .before .before .before .before .before .pre in (p .0, (p .1 .0, blank))
 
 loop-holds : tie.Need-loop-holds Inv-loop μ-loop Inv-all μ-all
 loop-holds c =
-    let p = c .before .before .before .before .before .before .before .before .pre in
-    in-first _ _ _ _ _ _ _ _ _ _ (c .before .before .before .all .inv) (c .before .before .if1 .left)
-    (close-row _ (accepted-sound _ _ (is-accepted _ (p .0))) _ _ _ _ (p .1 .1 .0) _ _ _ (c .side-row .ensures))
+    let p = c .before .before .before .before .before .before .before .before .before .pre in
+    in-first _ _ _ _ _ _ _ _ _ _ (c .before .before .before .before .all .inv) (c .before .before .before .if1 .left)
+    (close-row _ (accepted-sound _ _ (is-accepted _ (p .0))) _ (p .1 .1 .0) _ _ _ (c .side-row .ensures))
 
 cast-step : tie.Need-cast-step Inv-loop μ-loop Inv-all μ-all
 cast-step c = omega arith
@@ -70,11 +70,11 @@ cast-step c = omega arith
 mul-step : tie.Need-mul-step Inv-loop μ-loop Inv-all μ-all
 mul-step c = omega arith
 
-element-copy-out-step : tie.Need-element-copy-out-step Inv-loop μ-loop Inv-all μ-all
-element-copy-out-step c = omega arith
+array-read-step : tie.Need-array-read-step Inv-loop μ-loop Inv-all μ-all
+array-read-step c = omega arith
 
 number-of-requires : tie.Need-number-of-requires Inv-loop μ-loop Inv-all μ-all
-number-of-requires c κs = (omega arith, c .before .before .before .loop .inv .known)
+number-of-requires c κs = (omega arith, c .before .before .loop .inv .known)
 
 add-result : tie.Need-add-result Inv-loop μ-loop Inv-all μ-all
 add-result c = omega arith
@@ -93,8 +93,8 @@ add-count c = omega arith
 
 cast-rows : tie.Need-cast-rows Inv-loop μ-loop Inv-all μ-all
 cast-rows c =
-    let l = c .before .before .before .before .before .loop in
-    let t = c .before .before .before .before .loop-test in
+    let l = c .before .before .before .before .loop in
+    let t = c .before .before .before .loop-test in
     let m = c .before .number-of in
     let small : m .result < mostSets = ⊎-elim
     (λ w. new-small _ _ _ _ _ _ _ _ _ _ _ (l .inv) (t .taken) (m .result) (m .ensures) (w .0 .taken) (w .1 .left))
@@ -123,8 +123,8 @@ loop-less c = omega arith
 
 loop-again : tie.Need-loop-again Inv-loop μ-loop Inv-all μ-all
 loop-again c =
-    let l = c .before .before .before .before .before .loop in
-    let t = c .before .before .before .before .loop-test in
+    let l = c .before .before .before .before .loop in
+    let t = c .before .before .before .loop-test in
     let m = c .before .number-of in
     ⊎-elim
     (λ w. in-new _ _ _ _ _ _ _ _ _ _ _ (l .inv) (t .taken) (m .result) (m .ensures) _ (w .2 .ensures) _ _ (w .0 .taken) (w .1 .left) (w .3) (w .4))
@@ -163,8 +163,8 @@ same-length-4 c =
 returns-2 : tie.Need-returns-2 Inv-loop μ-loop Inv-all μ-all
 unfolding sideTable
 returns-2 c =
-    let l = c .before .before .before .before .before .before .loop in
-    let t = c .before .before .before .before .before .loop-test in
+    let l = c .before .before .before .before .before .loop in
+    let t = c .before .before .before .before .loop-test in
     let m = c .before .before .number-of in
     too-many _ _ _ _ (in-full _ _ _ _ _ _ _ _ _ _ _ (l .inv) (t .taken) (m .result) (m .ensures) (c .before .if2 .taken) (c .if3 .taken))
 
@@ -185,7 +185,7 @@ number-sets-spec =
     loop-holds
     cast-step
     mul-step
-    element-copy-out-step
+    array-read-step
     number-of-requires
     add-result
     close-requires-2

@@ -4,36 +4,43 @@ use Prim.Native.Nat.{ℕ, _+_, _-_, _≤_}
 use native.Mathlib.Omega.{arith}
 use native.Mathlib.Numerals.{add-one}
 use borrow.Author.Needs.{needs}
-use mathlib.Core.List.{List}
 use lib.ListN.{getD}
 use lib.Bits.{bitOr}
 use Rattle.book.specs.Format.{mostRules}
+use Rattle.book.specs.Outline.{rightStarts, focusAccepts}
 use Rattle.sets.specs.Stepping.{gather, joins}
 use Rattle.sets.proofs.stepping.gather.Statement.{statement}
 use Rattle.sets.proofs.stepping.gather.Tie as tie
 
 abbrev Inv-loop : tie.InvT-loop
-Inv-loop x tests gives out₀ i₀ out i = (i ≤ mostRules) × (out ≡ gather i x tests gives)
+Inv-loop x masks out₀ i₀ out i =
+    (i ≤ mostRules) × (out ≡ gather i x (λ r. getD masks (rightStarts r) 0) (λ r. getD masks (focusAccepts r) 0))
 
 abbrev μ-loop : tie.MeasureT-loop
-μ-loop x tests gives out₀ i₀ out i = mostRules - i
+μ-loop x masks out₀ i₀ out i = mostRules - i
 
-gather-more : (i x out r : ℕ) (S A : List ℕ) → out ≡ gather i x S A → r ≡ joins x (getD S i 0) (getD A i 0) → bitOr out r ≡ gather (i + 1) x S A
+gather-more : (i x out r : ℕ) (S A : ℕ → ℕ) → out ≡ gather i x S A → r ≡ joins x (S i) (A i) → bitOr out r ≡ gather (i + 1) x S A
 unfolding gather
 gather-more i x out r S A e f = rw add-one (ap₂ bitOr e f)
 
-gather-end : (i x out : ℕ) (S A : List ℕ) → i ≡ mostRules → out ≡ gather i x S A → out ≡ gather mostRules x S A
+gather-end : (i x out : ℕ) (S A : ℕ → ℕ) → i ≡ mostRules → out ≡ gather i x S A → out ≡ gather mostRules x S A
 gather-end i x out S A e f = f ∙ ap (λ (k : ℕ). gather k x S A) e
 
 loop-holds : tie.Need-loop-holds Inv-loop μ-loop
 unfolding gather
 loop-holds c = (omega arith, refl)
 
+add-joins : tie.Need-add-joins Inv-loop μ-loop
+add-joins c = omega arith
+
 mul-joins : tie.Need-mul-joins Inv-loop μ-loop
 mul-joins c = omega arith
 
 element-copy-out-joins : tie.Need-element-copy-out-joins Inv-loop μ-loop
 element-copy-out-joins c = omega arith
+
+add-joins-2 : tie.Need-add-joins-2 Inv-loop μ-loop
+add-joins-2 c = omega arith
 
 mul-joins-2 : tie.Need-mul-joins-2 Inv-loop μ-loop
 mul-joins-2 c = omega arith
@@ -66,8 +73,10 @@ gather-spec =
     Inv-loop
     μ-loop
     loop-holds
+    add-joins
     mul-joins
     element-copy-out-joins
+    add-joins-2
     mul-joins-2
     element-copy-out-joins-2
     joins-requires

@@ -18,7 +18,7 @@ abbrev μ-loop : tie.MeasureT-loop
 
 loop-holds : tie.Need-loop-holds Inv-loop μ-loop
 loop-holds c =
-    step-row-start _ _ _ _ (search needs)
+    step-row-start _ _ _ _ _ (search needs) (c .before .pre .1 .1 .1)
 
 cast-state : tie.Need-cast-state Inv-loop μ-loop
 cast-state c =
@@ -44,7 +44,7 @@ cast-place c =
 sweep-row-requires : tie.Need-sweep-row-requires Inv-loop μ-loop
 sweep-row-requires c κs =
     let a = c .before .before .before .before .before .before .before in
-    (a .pre .0, (a .pre .1 .0 _, (omega (arith, c .before .if2 .taken), (a .pre .1 .1, c .before .before .before .before .before .loop .inv .long))))
+    (a .pre .0, (a .pre .1 .0 _, (omega (arith, c .before .if2 .taken), (a .pre .1 .1 .0, c .before .before .before .before .before .loop .inv .long))))
 
 loop-less : tie.Need-loop-less Inv-loop μ-loop
 loop-less c =

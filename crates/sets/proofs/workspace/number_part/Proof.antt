@@ -47,7 +47,7 @@ same-length-2 c = search needs
 returns : tie.Need-returns
 returns c =
     let n = c .before .before .before .before .number-side in
-    let k = n .kept .1 .1 .1 .1 .1 .1 .1 in
+    let k = n .kept .1 .1 .1 .1 in
     let a = c .before .before .before .before .before .before .before .before .before .before .args in
     let p = c .before .before .before .before .before .before .before .before .before .before .pre .1 .1 .1 in
     placed-at _ _ (a .row) (a .set) (a .rows .now) (a .sets .now) _ _ (p .0) (p .1) (k .0) (k .1 .0) (n .ensures)
