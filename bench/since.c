@@ -16,6 +16,8 @@ enum {
     TURN = 1000000,  /* nanoseconds that a turn takes at least */
     ROOM = 1 << 14,  /* more than any book or tape of the inputs has, and than any workspace needs */
     WORDS = 1 << 19, /* of an account */
+    PIECE = 64,      /* symbols of a lane in a heat of pieces */
+    HEAT_OUT = QAFRENDI_MOST_LANES * QAFRENDI_LONGEST_OUT,
     TEXT = 1 << 12
 };
 
@@ -23,14 +25,16 @@ enum {
     __typeof__(qafrendi_check) side##_check; \
     __typeof__(qafrendi_build) side##_build; \
     __typeof__(qafrendi_rewrite) side##_rewrite; \
-    __typeof__(qafrendi_account) side##_account;
+    __typeof__(qafrendi_account) side##_account; \
+    __typeof__(qafrendi_heat) side##_heat __attribute__((weak)); /* libraries before request 2 have none */
 FUNCTIONS(before)
 FUNCTIONS(now)
 
-static uint8_t book[ROOM], tape[ROOM], rows[ROOM], scratch[ROOM], out[QAFRENDI_LONGEST_OUT];
+static uint8_t book[ROOM], tape[ROOM], rows[ROOM], scratch[ROOM], out[HEAT_OUT];
 static uint64_t sets[ROOM];
-static uint16_t origins[QAFRENDI_LONGEST_OUT], lines[WORDS];
+static uint16_t origins[HEAT_OUT], lines[WORDS];
 static size_t book_length, tape_length;
+static qafrendi_lane whole[QAFRENDI_MOST_LANES], pieces[QAFRENDI_MOST_LANES]; /* each lane the tape; each a piece of it, one after the other */
 
 /* Each side of each operation: what it does once, and its reply. */
 #define SIDES(side) \
@@ -44,7 +48,14 @@ static size_t book_length, tape_length;
     static int side##_account_once(void) \
     { \
         return side##_account(book, book_length, tape, tape_length, rows, ROOM, sets, ROOM, scratch, ROOM, lines, WORDS).reply; \
-    }
+    } \
+    static int side##_heat_of(qafrendi_lane *lanes) \
+    { \
+        return side##_heat(book, book_length, tape, tape_length, lanes, QAFRENDI_MOST_LANES, rows, ROOM, sets, ROOM, scratch, ROOM, \
+            out, HEAT_OUT, origins, HEAT_OUT).reply; \
+    } \
+    static int side##_heat_once(void) { return side##_heat_of(whole); } \
+    static int side##_pieces_once(void) { return side##_heat_of(pieces); }
 SIDES(now)
 SIDES(before)
 
@@ -58,9 +69,17 @@ static const struct operation {
     {"BUILD", now_build_once, before_build_once},
     {"REWRITE", now_rewrite_once, before_rewrite_once},
     {"ACCOUNT", now_account_once, before_account_once},
+    {"HEAT", now_heat_once, before_heat_once},
+    {"HEAT of pieces", now_pieces_once, before_pieces_once},
 };
 
-enum { OPERATIONS = sizeof operations / sizeof *operations };
+enum { OPERATIONS = sizeof operations / sizeof *operations, HEATS = 2 };
+
+/* How many of them both libraries have: heats come last. */
+static int common(void)
+{
+    return before_heat ? OPERATIONS : OPERATIONS - HEATS;
+}
 
 static double clock_now(void)
 {
@@ -121,8 +140,13 @@ static void measure(const char *folder, const char *name)
 {
     book_length = load(book, folder, name, ".book");
     tape_length = load(tape, folder, name, ".tape");
+    for (size_t i = 0; i < QAFRENDI_MOST_LANES; i++) {
+        whole[i].length = tape_length;
+        pieces[i].start = i * PIECE % (tape_length + 1);
+        pieces[i].length = tape_length - pieces[i].start < PIECE ? tape_length - pieces[i].start : PIECE;
+    }
     printf("%-32s", name);
-    for (int i = 0; i < OPERATIONS; i++) {
+    for (int i = 0; i < common(); i++) {
         int now = operations[i].now(), before = operations[i].before();
         printf("  x%.2f", ratio(&operations[i]));
         if (now == before)
@@ -141,7 +165,7 @@ int main(int count, char **words)
         return 2;
     names[load(names, words[1], "names", "")] = 0;
     printf("%-32s", "time over the earlier one's");
-    for (int i = 0; i < OPERATIONS; i++)
+    for (int i = 0; i < common(); i++)
         printf("  %-14s", operations[i].name);
     printf("\n");
     for (char *name = strtok((char *)names, "\n"); name; name = strtok(0, "\n"))

@@ -1,4 +1,5 @@
-/* The stack that each public operation uses: it runs on a painted stack of its own, and the deepest place where the paint is gone tells.
+/* The stack that each public operation uses, which may not pass QAFRENDI_STACK: it runs on a painted stack of its own, and the deepest place where
+ * the paint is gone tells.
  *
  *     low                                          high
  *     [paint paint paint ... | operation | caller's arguments | caller ]
@@ -7,7 +8,8 @@
  * The same caller calls a function that does nothing; the difference of the two depths is what the operation takes below its return
  * address. What is reserved at the very bottom and never written is not seen.
  *
- * stack DIR: DIR holds what src/bin/inputs.rs writes. For x86-64, as the library is. */
+ * stack DIR: DIR holds what src/bin/inputs.rs writes. For x86-64, as the library is. It ends with 'N passed, M failed', an operation each, and the
+ * status is 0 only if none has failed: the same library has the same figures on every run. */
 #include <stdio.h>
 #include <stdlib.h>
 #include <string.h>
@@ -68,23 +70,36 @@ static void check(function *f)
     ((__typeof__(qafrendi_check) *)f)(book, book_length);
 }
 
+/* Room enough, and none: 11. */
 static void build(function *f)
 {
-    ((__typeof__(qafrendi_build) *)f)(book, book_length, rows, QAFRENDI_ROW_BYTES, sets, QAFRENDI_SET_WORDS);
+    static const size_t rooms[] = {QAFRENDI_ROW_BYTES, 0};
+    for (size_t i = 0; i < sizeof rooms / sizeof *rooms; i++)
+        ((__typeof__(qafrendi_build) *)f)(book, book_length, rows, rooms[i], sets, QAFRENDI_SET_WORDS);
 }
 
+/* Room enough for every output; an output that must be measured, and where it is not empty is refused: 15; no scratch: 12. */
 static void rewrite(function *f)
 {
-    ((__typeof__(qafrendi_rewrite) *)f)(
-        book, book_length, tape, tape_length, rows, QAFRENDI_ROW_BYTES, sets, QAFRENDI_SET_WORDS, scratch, QAFRENDI_SCRATCH,
-        out, QAFRENDI_LONGEST_OUT, origins, QAFRENDI_LONGEST_OUT);
+    static const struct {
+        size_t scratch, out;
+    } rooms[] = {{QAFRENDI_SCRATCH, QAFRENDI_LONGEST_OUT}, {QAFRENDI_SCRATCH, 0}, {0, QAFRENDI_LONGEST_OUT}};
+    for (size_t i = 0; i < sizeof rooms / sizeof *rooms; i++)
+        ((__typeof__(qafrendi_rewrite) *)f)(
+            book, book_length, tape, tape_length, rows, QAFRENDI_ROW_BYTES, sets, QAFRENDI_SET_WORDS, scratch, rooms[i].scratch,
+            out, rooms[i].out, origins, rooms[i].out);
 }
 
+/* The same of ACCOUNT: 15 where there is a candidate, and 12. */
 static void account(function *f)
 {
-    ((__typeof__(qafrendi_account) *)f)(
-        book, book_length, tape, tape_length, rows, QAFRENDI_ROW_BYTES, sets, QAFRENDI_SET_WORDS, scratch, QAFRENDI_SCRATCH,
-        lines, QAFRENDI_LINE_WORDS * LINES);
+    static const struct {
+        size_t scratch, words;
+    } rooms[] = {{QAFRENDI_SCRATCH, QAFRENDI_LINE_WORDS * LINES}, {QAFRENDI_SCRATCH, 0}, {0, QAFRENDI_LINE_WORDS * LINES}};
+    for (size_t i = 0; i < sizeof rooms / sizeof *rooms; i++)
+        ((__typeof__(qafrendi_account) *)f)(
+            book, book_length, tape, tape_length, rows, QAFRENDI_ROW_BYTES, sets, QAFRENDI_SET_WORDS, scratch, rooms[i].scratch,
+            lines, rooms[i].words);
 }
 
 /* The first line, the last, and one that is not there. */
@@ -159,12 +174,15 @@ static void measure(struct operation *o, const char *name)
     }
 }
 
-/* The caller's arguments are kept aligned to two words, and the return address is one. */
-static void print(const struct operation *o)
+/* Whether the operation keeps the limit. The caller's arguments are kept aligned to two words, and the return address is one. */
+static int print(const struct operation *o)
 {
     size_t words = o->arguments > REGISTERS ? o->arguments - REGISTERS : 0;
     size_t pushed = (words + 1) / 2 * 2 * WORD + WORD;
-    printf("%-10s%8zu%22zu%8zu   %s\n", o->name, o->bytes, pushed, o->bytes + pushed, o->worst);
+    size_t sum = o->bytes + pushed;
+    int kept = sum <= QAFRENDI_STACK;
+    printf("%-10s%8zu%22zu%8zu   %s%s\n", o->name, o->bytes, pushed, sum, o->worst, kept ? "" : ": more than QAFRENDI_STACK");
+    return kept;
 }
 
 static void stop(const char *what, const char *why)
@@ -216,7 +234,9 @@ int main(int count, char **words)
     fclose(names);
     printf("STACK of the library that is delivered (rt staticlib deck, x86-64): bytes, on a painted stack\n");
     printf("%-10s%8s%22s%8s   deepest at\n", "", "own", "arguments and return", "sum");
+    int passed = 0;
     for (int i = 0; i < OPERATIONS; i++)
-        print(&operations[i]);
-    return 0;
+        passed += print(&operations[i]);
+    printf("%d passed, %d failed\n", passed, OPERATIONS - passed);
+    return passed < OPERATIONS;
 }

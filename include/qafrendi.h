@@ -18,8 +18,8 @@
  *
  * A heat: 16 first, nothing written; then 1 to 8, 11, 13, 14 for the whole call; then lane by lane 17, 9, 10, 12, 15.
  *
- * Stack of a call, with its arguments and return address, measured on the worst inputs known (bench/run stack): check 312 bytes,
- * build 1,224, rewrite 3,032, account 2,776, show 8, heat 3,128. No call recurses.
+ * No call uses more than QAFRENDI_STACK bytes of stack, its arguments and return address among them, and none recurses: measured on the
+ * worst inputs known and held by the tests (`bench/run stack` prints what each function uses).
  */
 #ifndef QAFRENDI_H
 #define QAFRENDI_H
@@ -31,7 +31,7 @@
 extern "C" {
 #endif
 
-/* The limits, and what is enough for every call: the two pieces of the workspace, the scratch, and the output of the longest tape. */
+/* The limits, and what is enough for every call: the two pieces of the workspace, the scratch, the output of the longest tape, and the stack. */
 enum {
     QAFRENDI_SYMBOLS = 16,
     QAFRENDI_LONGEST_WORD = 8,
@@ -42,7 +42,8 @@ enum {
     QAFRENDI_SCRATCH = QAFRENDI_LONGEST_TAPE + 1,
     QAFRENDI_LONGEST_OUT = QAFRENDI_LONGEST_WORD * QAFRENDI_LONGEST_TAPE,
     QAFRENDI_LINE_WORDS = 6,
-    QAFRENDI_MOST_LANES = 10
+    QAFRENDI_MOST_LANES = 10,
+    QAFRENDI_STACK = 2048
 };
 
 /* Replies                            given when                                                           place */
