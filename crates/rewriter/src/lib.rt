@@ -23,9 +23,9 @@ pub use shown::show;
 // "tape 0 to 4,096 symbols"
 pub const LONGEST_TAPE: usize = 4096;
 
-// Whether a call is refused before the forward passes.
+// Whether a call is refused before anything is built, or a tape before its passes.
 pub struct Refusal {
-    // 0 for no refusal, else its number, 1 to 14: REWRITE and ACCOUNT go on only after 0, and answer any other as theirs.
+    // 0 for no refusal, else its number, 1 to 12: REWRITE and ACCOUNT go on only after 0, and answer any other as theirs.
     pub reply: u8,
     // Where it arose: an offset of the book, at most its length, or with 10 a position of the tape; 0 for none. It is answered as it is.
     pub place: usize,

@@ -7,7 +7,7 @@ ghost use Rattle.rewriter.specs.Opening.{opened, tapeRefusal};
 use super::LONGEST_TAPE;
 use super::Refusal;
 
-// What is known of a call before the forward passes.
+// What is known of a call before anything is built.
 pub struct Opened {
     // Whether it is refused, and with what.
     pub refusal: Refusal,
@@ -16,7 +16,7 @@ pub struct Opened {
 }
 
 // A reply with its place, beside the rules; 0 is no refusal.
-pub(crate) fn answer(reply: u8, place: usize, rules: usize) -> Opened
+fn answer(reply: u8, place: usize, rules: usize) -> Opened
     ensures { λ r. ⌜ r ≡ opened (refusal reply place) rules ⌝ }
 {
     Opened {
