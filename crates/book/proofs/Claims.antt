@@ -2,14 +2,14 @@
 -- the records of an accepted book, each with its place and content, is `Walk` of Walk.antt; the record of each state is `Found` of
 -- Placing.antt. That the contract determines the answer is `one-result` of One.antt. Assumes nothing.
 use Prim.Native.Nat.{ℕ, zero, suc, _<_}
-use mathlib.Core.Path.{_≡_, sym, subst, _∙_}
+use mathlib.Core.Path.{_≡_, subst}
 use mathlib.Core.List.{List}
 use lib.ListN.{length}
 use lib.Dec.{eqb}
 use borrow.Author.Tests.{eqb-false}
 use native.Mathlib.Omega.{arith}
-use Rattle.book.specs.Format.{mostRules, endKind, byte, endReply, kindReply}
-use Rattle.book.specs.Reading.{State, Book, empty, scanOf, accepted, readFrom, readBook, answer, checkDef, bookOf}
+use Rattle.book.specs.Format.{endKind, byte, endReply, kindReply}
+use Rattle.book.specs.Reading.{Book, empty, scanOf, accepted, readFrom, readBook, answer, checkDef, bookOf}
 use Rattle.book.specs.Language.{stateOf}
 use Rattle.book.specs.Sound.{Sound}
 use Rattle.book.proofs.Passed.{test-passed, passed}

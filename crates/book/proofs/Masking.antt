@@ -13,7 +13,7 @@ use native.Mathlib.Omega.{arith}
 use lib.Pow.{pow-lt, pow-pos}
 use lib.Dec.{eqb}
 use lib.Bits.{bitOr, or-lt, or-zero-r, or-self}
-use lib.ListN.{length, getD, set, replicate, length-set, length-append, List·getD-eq-default}
+use lib.ListN.{length, getD, set, length-set, List·getD-eq-default}
 use lib.Seq.{getD-set-same, getD-set-other, getD-append-seam}
 use borrow.Author.Tests.{eqb-true, eqb-false, eq-eqb, ne-eqb}
 use Rattle.book.specs.StateSets.{member, encode}
@@ -21,7 +21,7 @@ use Rattle.book.proofs.Bits.{or-assoc, member-or, member-one, member-no
 use Rattle.book.specs.Format.{mostRules, mostStates, stateKind, leftPart, focusPart, rightPart, startFlag, acceptFlag, partAt, flagsAt, byte, pad}
 use Rattle.book.specs.Reading.{State, Book, stateAt, withRecord}
 use Rattle.book.proofs.Sound.{kind-state, state-fits}
-use Rattle.book.proofs.Walk.{Walk, walk-passed, states-more, states-same, words-rule, words-same}
+use Rattle.book.proofs.Walk.{Walk, walk-passed, states-more}
 use Rattle.book.specs.Language.{noState, stateOf, flagged, isOf}
 use Rattle.book.specs.Sound.{Sound}
 use Rattle.book.specs.Outline.{leftAccepts, focusStarts, focusAccepts, rightStarts, allStarts, allAccepts, leftStarts, rightAccepts}

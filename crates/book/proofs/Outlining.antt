@@ -1,8 +1,7 @@
 -- The outline of an accepted book as far as the walk over its records has come: the places of the states so far and their masks. A rule's record
 -- counts, a state's adds a place and a state to the masks, an arc's changes nothing. Assumes nothing.
 use Prim.Native.Nat.{ℕ, _+_, _-_, _<_}
-use mathlib.Core.Path.{_≡_, refl, ap, sym, _∙_}
-use mathlib.Core.Logic.{_≢_}
+use mathlib.Core.Path.{_≡_, refl, sym, _∙_}
 use mathlib.Core.List.{List, []}
 use native.Mathlib.Omega.{arith}
 use lib.ListN.{length, set, length-append}
