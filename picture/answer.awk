@@ -68,7 +68,7 @@ function check_answer(    i) {
   if (NR == 0) fail("the answer is empty")
   if (given_output && NR == 1) fail("the line O is missing")
   if (output_length != length(output) || output_length != origins) fail("W and O do not agree")
-  for (i = 0; i < origins; i++) if (origin[i] > tape_length) fail("an origin is outside this tape")
+  for (i = 0; i < origins; i++) if (origin[i] >= tape_length) fail("an origin is outside this tape")
   for (i = 0; i < candidates; i++) check_deciding(deciding_start[i], deciding_rule[i])
 }
 
