@@ -1,7 +1,7 @@
 -- The theorems about HEAT, on one page. No hypothesis on book, common buffer, lanes or buffers, but where one is named. (The contract determines the
 -- result: One.antt.) R, S, X, O, G are rows, sets, scratch, output and origins before the call.
 use Prim.Native.Nat.{ℕ, _≤_, _<_}
-use mathlib.Core.Path.{_≡_, refl, sym, ap, ap₂, _∙_}
+use mathlib.Core.Path.{_≡_, refl, sym, subst, ap, ap₂, _∙_}
 use mathlib.Core.Bool.{Bool, true, false, cond}
 use mathlib.Core.List.{List, [], _∷_, _++_}
 use native.Mathlib.Omega.{arith}
@@ -10,7 +10,9 @@ use lib.ListN.{length, take, drop, getD}
 use Rattle.book.specs.Language.{rulesIn}
 use Rattle.sets.specs.Workspace.{buildDef}
 use Rattle.stretches.specs.Output.{rewriting}
+use Rattle.stretches.specs.Sentences.{NeverFalls}
 use Rattle.stretches.proofs.Counts.{symbols-length, origins-length}
+use Rattle.stretches.proofs.Rising.{falls-take, rewriting-rises}
 use Rattle.sets.specs.Tables.{AsBuilt}
 use Rattle.sets.proofs.Tables.{as-built}
 use Rattle.heat.specs.declared.Lane.{Lane}
@@ -84,6 +86,10 @@ module _ (book tapes R S X O G : List ℕ) (pre post : List Lane) (l : Lane) (fe
   the-origins =
       One.origins-stay book tapes R S X O G pre post l few z (writtenOrigins book tapes l)
       (omega (arith, out-fits, origins-length (rewriting (rulesIn book) (tapeOf tapes l)))) (Change.lane-origins book _ _ tapes l before)
+
+  -- whose origins, positions of the lane's own tape, never fall,
+  pub the-times : NeverFalls (take (record-of .out) (drop (before .used) (heat .origins)))
+  the-times = subst NeverFalls (sym the-origins) (falls-take (record-of .out) (writtenOrigins book tapes l) (rewriting-rises (rulesIn book) (tapeOf tapes l)))
 
   -- which are all of them where it is accepted; there was room then, and with 15 there was none for as many as the place says
   pub all-written : record-of .reply ≡ 0 → record-of .out ≡ all

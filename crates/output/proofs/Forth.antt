@@ -17,7 +17,7 @@ use Rattle.stretches.specs.Position.{marksAt, takesAt}
 use Rattle.output.specs.Passes.{Sized, MarksFit, MarksPut}
 use Rattle.stretches.proofs.NoEmpty.{no-empty}
 use Rattle.stretches.proofs.Counts.{symbols-length, origins-length}
-use Rattle.output.proofs.Marks.{symbols-append, origins-append}
+use Rattle.stretches.proofs.WordMarks.{symbols-append, origins-append}
 use Rattle.output.proofs.Limits.{taken-most}
 use Rattle.stretches.proofs.Front.{Front, front-start, front-put, front-end}
 use Rattle.stretches.proofs.Along.{from, marks-step, takes-step, marks-all, takes-all, marks-last, takes-last}

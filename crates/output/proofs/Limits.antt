@@ -21,7 +21,7 @@ use Rattle.stretches.specs.Ready.{Ready}
 use Rattle.stretches.specs.Position.{marksAt, takesAt, endNext}
 use Rattle.output.specs.Passes.{mostMarks}
 use Rattle.stretches.proofs.Greatest.{greatest-least, greatest-all, greatest-most, Topped, topped-start, topped-more, topped-less, topped-end}
-use Rattle.stretches.proofs.Lengths.{marks-length}
+use Rattle.stretches.proofs.WordMarks.{marks-length}
 use Rattle.stretches.proofs.NoEmpty.{NoEmpty, no-empty}
 use Rattle.book.proofs.Claims.{sound as sound-of}
 use Rattle.stretches.proofs.Walks.{longest-low}
@@ -107,7 +107,7 @@ module _ (b : Rules) (t : List ℕ) where
         (λ e. omega (arith, most-kept b, ap length (marks-keep b t none i end (omega arith) e)))
         (λ e. let l = longest-low b t i in
         let w = ruleWord b (ruleOf b t i (longest b t i)) in
-        let z : length (marksAt b t i end) ≡ length w = ap length (marks-word b t none i end (omega arith) (omega arith)) ∙ marks-length w i in
+        let z : length (marksAt b t i end) ≡ length w = ap length (marks-word b t none i end (omega arith) (omega arith)) ∙ marks-length w i (longest b t i) in
         omega (arith, z, most-word b (ruleOf b t i (longest b t i)))))
 
     marks-from : (k i end : ℕ) → i + k ≡ length t → At b t i end → length (from b t (writtenAt b t) i) ≤ k * mostMarks b

@@ -1,6 +1,6 @@
--- Symbols and origins of what is written, and of a rule's word as the book's bytes have it. Assumes nothing.
-use Prim.Native.Nat.{ℕ, zero, suc, _+_, _≤_, _<_}
-use mathlib.Core.Path.{_≡_, refl, sym, ap, subst, _∙_}
+-- A rule's word as the book's bytes have it, and both outputs as far as it is written. Assumes nothing.
+use Prim.Native.Nat.{ℕ, _+_, _≤_, _<_}
+use mathlib.Core.Path.{_≡_, sym, ap, subst, _∙_}
 use mathlib.Core.List.{List, [], _∷_, _++_}
 use native.Mathlib.Omega.{arith}
 use native.Mathlib.Numerals.{add-one}
@@ -10,30 +10,12 @@ use Rattle.book.specs.Format.{lengthAt, symbolsAt, byte}
 use Rattle.book.specs.Reading.{wordAt}
 use Rattle.book.specs.Outline.{WordRoom}
 use Rattle.book.proofs.Placing.{word-length}
-use Rattle.stretches.specs.Output.{Mark, marks, symbolsOf, originsOf}
+use Rattle.stretches.specs.Output.{wordOrigin, wordMarks, originsOf}
 use Rattle.stretches.specs.Lists.{put}
 use Rattle.output.specs.Passes.{WordPut}
 use Rattle.stretches.proofs.Counts.{origins-length}
-use Rattle.stretches.proofs.Lengths.{marks-length}
+use Rattle.stretches.proofs.WordMarks.{marks-length, marks-origin}
 use Rattle.stretches.proofs.Front.{Front, front-begin, front-put, front-finish, put-one}
-
-pub symbols-marks : (w : List ℕ) (i : ℕ) → symbolsOf (marks w i) ≡ w
-symbols-marks [] i = refl
-symbols-marks (x ∷ w) i = ap (λ (r : List ℕ). x ∷ r) (symbols-marks w i)
-
-pub symbols-append : (a b : List Mark) → symbolsOf (a ++ b) ≡ symbolsOf a ++ symbolsOf b
-symbols-append [] b = refl
-symbols-append (x ∷ xs) b = ap (λ (r : List ℕ). x .symbol ∷ r) (symbols-append xs b)
-
-pub origins-append : (a b : List Mark) → originsOf (a ++ b) ≡ originsOf a ++ originsOf b
-origins-append [] b = refl
-origins-append (x ∷ xs) b = ap (λ (r : List ℕ). x .origin ∷ r) (origins-append xs b)
-
--- the origin of symbol k of a word
-origin-at : (w : List ℕ) (i k : ℕ) → k < length w → getD (originsOf (marks w i)) k 0 ≡ i
-origin-at [] i k h = absurd (omega arith)
-origin-at (x ∷ w) i zero h = refl
-origin-at (x ∷ w) i (suc k) h = origin-at w i k (omega arith)
 
 -- ---- the word in the record at p
 
@@ -48,37 +30,37 @@ front-set : (l₀ l : List ℕ) (at x : ℕ) (more whole : List ℕ) → at < le
 front-set l₀ l at x more whole h was = rw (put-one l at x h) (front-put l₀ l at (x ∷ []) more whole (omega arith) was)
 
 -- a word as far as it is written
-pub record Spelling (w : List ℕ) (i : ℕ) (out₀ org₀ out org : List ℕ) (at k : ℕ) : Type 0 where
+pub record Spelling (w : List ℕ) (i j : ℕ) (out₀ org₀ out org : List ℕ) (at k : ℕ) : Type 0 where
   pub within : k ≤ length w
   pub room : (at + length w ≤ length out₀) × (at + length w ≤ length org₀)
   pub outs : Front out₀ out (at + k) (drop k w) (take at out₀ ++ w)
-  pub orgs : Front org₀ org (at + k) (drop k (originsOf (marks w i))) (take at org₀ ++ originsOf (marks w i))
+  pub orgs : Front org₀ org (at + k) (drop k (originsOf (wordMarks w i j))) (take at org₀ ++ originsOf (wordMarks w i j))
 
-module _ (w : List ℕ) (i : ℕ) where
-  count : length (originsOf (marks w i)) ≡ length w
-  count = origins-length (marks w i) ∙ marks-length w i
+module _ (w : List ℕ) (i j : ℕ) where
+  count : length (originsOf (wordMarks w i j)) ≡ length w
+  count = origins-length (wordMarks w i j) ∙ marks-length w i j
 
-  pub spelling-start : (out org : List ℕ) (at : ℕ) → (at + length w ≤ length out) × (at + length w ≤ length org) → Spelling w i out org out org at 0
+  pub spelling-start : (out org : List ℕ) (at : ℕ) → (at + length w ≤ length out) × (at + length w ≤ length org) → Spelling w i j out org out org at 0
   spelling-start out org at h = record {
     within = omega arith;
     room = h;
     outs = begin out w (omega arith);
-    orgs = begin org (originsOf (marks w i)) (omega arith);
+    orgs = begin org (originsOf (wordMarks w i j)) (omega arith);
   }
     where
       begin : (l v : List ℕ) → at ≤ length l → Front l l (at + 0) (drop 0 v) (take at l ++ v)
       begin l v g = let e : at ≡ at + 0 = omega arith in subst (λ (n : ℕ). Front l l n v (take at l ++ v)) e (front-begin l v at g)
 
-  module _ (out₀ org₀ out org : List ℕ) (at k : ℕ) (was : Spelling w i out₀ org₀ out org at k) where
+  module _ (out₀ org₀ out org : List ℕ) (at k : ℕ) (was : Spelling w i j out₀ org₀ out org at k) where
     pub spelling-room : k < length w → (at + k < length out) × (at + k < length org)
     spelling-room h = (omega (arith, was .room, was .outs .same), omega (arith, was .room, was .orgs .same))
 
-    pub spelling-turn : k < length w → (x o : ℕ) → x ≡ getD w k 0 → o ≡ i → Spelling w i out₀ org₀ (set out (at + k) x) (set org (at + k) o) at (k + 1)
+    pub spelling-turn : k < length w → (x o : ℕ) → x ≡ getD w k 0 → o ≡ wordOrigin (length w) i j k → Spelling w i j out₀ org₀ (set out (at + k) x) (set org (at + k) o) at (k + 1)
     spelling-turn h x o e f = record {
       within = omega arith;
       room = was .room;
       outs = one out₀ out w x h (spelling-room h .0) e (was .outs);
-      orgs = one org₀ org (originsOf (marks w i)) o (omega (arith, count)) (spelling-room h .1) (f ∙ sym (origin-at w i k h)) (was .orgs);
+      orgs = one org₀ org (originsOf (wordMarks w i j)) o (omega (arith, count)) (spelling-room h .1) (f ∙ sym (marks-origin w i j k h)) (was .orgs);
     }
       where
         one : (l₀ l v : List ℕ) (x : ℕ) → k < length v → at + k < length l → x ≡ getD v k 0 → Front l₀ l (at + k) (drop k v) (take at l₀ ++ v)
@@ -89,11 +71,11 @@ module _ (w : List ℕ) (i : ℕ) where
             subst (λ (n : ℕ). Front l₀ (set l (at + k) x) n (drop (k + 1) v) (take at l₀ ++ v)) s
             (front-set l₀ l (at + k) x (drop (k + 1) v) (take at l₀ ++ v) room (subst (λ (m : List ℕ). Front l₀ l (at + k) m (take at l₀ ++ v)) d f))
 
-    pub spelling-end : (n : ℕ) → n ≡ length w → n ≤ k → WordPut w i at out₀ org₀ (at + n) out org
+    pub spelling-end : (n : ℕ) → n ≡ length w → n ≤ k → WordPut w i j at out₀ org₀ (at + n) out org
     spelling-end n e h = record {
       next = ap (λ (m : ℕ). at + m) e;
       outs = fin out₀ out w (omega (arith, was .room)) (omega (arith, was .within)) (was .outs);
-      orgs = fin org₀ org (originsOf (marks w i)) (omega (arith, was .room)) (omega (arith, was .within, count)) (was .orgs);
+      orgs = fin org₀ org (originsOf (wordMarks w i j)) (omega (arith, was .room)) (omega (arith, was .within, count)) (was .orgs);
     }
       where
         fin : (l₀ l v : List ℕ) → at ≤ length l₀ → k ≡ length v → Front l₀ l (at + k) (drop k v) (take at l₀ ++ v) → l ≡ put l₀ at v

@@ -17,14 +17,13 @@ use Rattle.stretches.specs.Ready.{Tests, RightSets}
 use Rattle.stretches.specs.Position.{TakenHere, marksAt}
 use Rattle.output.specs.Passes.{Shared, WordPut, KeptPut, MarksFit, MarksPut}
 use Rattle.stretches.specs.Lists.{put}
-use Rattle.stretches.proofs.Walks.{longest-low, some-far}
+use Rattle.stretches.proofs.Walks.{longest-low, longest-high, some-far}
 use Rattle.stretches.proofs.Stretches.{rule-first}
-use Rattle.stretches.proofs.Lengths.{marks-length}
+use Rattle.stretches.proofs.WordMarks.{marks-length, marks-symbols}
 use Rattle.stretches.proofs.NoEmpty.{NoEmpty, no-empty}
 use Rattle.stretches.proofs.Meets.{none-first}
 use Rattle.stretches.proofs.Scans.{walk-start, walk-dead}
 use Rattle.stretches.proofs.Front.{put-nil, put-one}
-use Rattle.output.proofs.Marks.{symbols-marks}
 use Rattle.stretches.proofs.Along.{marks-in, takes-in, end-in, end-new, marks-keep, marks-word, takes-none, takes-one}
 
 -- inside a stretch
@@ -93,6 +92,10 @@ module _ (book : List ℕ) (ok : checkDef book .reply ≡ 0) (t : List ℕ) (i e
         let q : longest (rulesIn book) t i ≡ i → ⊥ = λ z. k (took .far ∙ z) in
         omega arith
 
+    -- the stretch is one of the tape, and not empty
+    pub stretch-fits : i < length t → (i < stop) × (stop ≤ length t)
+    stretch-fits h = let f = took .far in let m = longest-high (rulesIn book) t i (omega arith) in (omega (arith, past), omega arith)
+
     far-rule : rule ≡ ruleOf (rulesIn book) t i (longest (rulesIn book) t i)
     far-rule = took .who ∙ ap (ruleOf (rulesIn book) t i) (took .far)
 
@@ -107,11 +110,11 @@ module _ (book : List ℕ) (ok : checkDef book .reply ≡ 0) (t : List ℕ) (i e
     marks-are : marksAt (rulesIn book) t i end ≡ wordMarks (wordAt book (getD words rule 0)) i stop
     marks-are =
         marks-word (rulesIn book) t none i end new past
-        ∙ ap (λ (x : ℕ). wordMarks (ruleWord (rulesIn book) x) i stop) (sym far-rule)
+        ∙ (λ z. wordMarks (ruleWord (rulesIn book) (sym far-rule z)) i (sym (took .far) z))
         ∙ ap (λ (w : List ℕ). wordMarks w i stop) (stands .is)
 
     marks-many : length (marksAt (rulesIn book) t i end) ≡ length (wordAt book (getD words rule 0))
-    marks-many = ap length marks-are ∙ marks-length (wordAt book (getD words rule 0)) i
+    marks-many = ap length marks-are ∙ marks-length (wordAt book (getD words rule 0)) i stop
 
     pub shared-word : (at at′ : ℕ) → at′ ≡ at + length (wordAt book (getD words rule 0)) → Shared (rulesIn book) t i at end at′ stop
     shared-word at at′ e = record {
@@ -124,11 +127,11 @@ module _ (book : List ℕ) (ok : checkDef book .reply ≡ 0) (t : List ℕ) (i e
     word-fits at out org r = (omega (arith, r .outs, marks-many), omega (arith, r .orgs, marks-many))
 
     pub put-replace : (at taken : ℕ) (out org : List ℕ) (at′ : ℕ) (out′ org′ : List ℕ)
-        → WordPut (wordAt book (getD words rule 0)) i at out org at′ out′ org′
+        → WordPut (wordAt book (getD words rule 0)) i stop at out org at′ out′ org′
         → MarksPut (rulesIn book) t i at end taken out org at′ stop (taken + 1) out′ org′
     put-replace at taken out org at′ out′ org′ p = record {
       share = shared-word at at′ (p .next);
       many = omega (arith, takes-one (rulesIn book) t none i end new past);
-      outs = p .outs ∙ ap (put out at) (sym (ap symbolsOf marks-are ∙ symbols-marks (wordAt book (getD words rule 0)) i));
+      outs = p .outs ∙ ap (put out at) (sym (ap symbolsOf marks-are ∙ marks-symbols (wordAt book (getD words rule 0)) i stop));
       orgs = p .orgs ∙ ap (put org at) (sym (ap originsOf marks-are));
     }

@@ -42,6 +42,11 @@ module _ (b : Rules) (tape out origins : List ℕ) where
   unfolding tapeDef
   tape-fits-origins = by-test (λ (x : AfterTape). x .answer .length ≤ length origins) room _ _ in-origins (λ e. zero-le)
 
+  -- and no more than the rewriting's
+  pub tape-counts : tapeDef b tape out origins .answer .length ≤ needed
+  unfolding tapeDef
+  tape-counts = by-test (λ (x : AfterTape). x .answer .length ≤ needed) room _ _ (λ e. omega arith) (λ e. zero-le)
+
   -- the buffers keep their lengths
   pub tape-out : length (tapeDef b tape out origins .out) ≡ length out
   unfolding tapeDef

@@ -8,7 +8,7 @@ use lib.Dec.{leb}
 use lib.ListN.{length, set}
 use Rattle.book.specs.Language.{Rules}
 use Rattle.stretches.specs.Candidates.{taken}
-use Rattle.stretches.specs.Output.{marks, rewriting, symbolsOf, originsOf}
+use Rattle.stretches.specs.Output.{wordMarks, rewriting, symbolsOf, originsOf}
 use Rattle.stretches.specs.Position.{marksAt, takesAt, endNext}
 use Rattle.stretches.specs.Lists.{put, greatest}
 
@@ -30,11 +30,11 @@ pub record Sized (b : Rules) (t : List ℕ) (length′ taken′ : ℕ) : Type 0 
 unfoldable pub neededPast : Rules → List ℕ → ℕ → ℕ
 neededPast b t room = cond (leb (length (rewriting b t)) room) 0 (length (rewriting b t))
 
--- the word w of a stretch that begins at i, written at `at`
-pub record WordPut (w : List ℕ) (i at : ℕ) (out₀ org₀ : List ℕ) (at′ : ℕ) (out org : List ℕ) : Type 0 where
+-- the word w of the stretch from i to j, written at `at`
+pub record WordPut (w : List ℕ) (i j at : ℕ) (out₀ org₀ : List ℕ) (at′ : ℕ) (out org : List ℕ) : Type 0 where
   pub next : at′ ≡ at + length w
   pub outs : out ≡ put out₀ at w
-  pub orgs : org ≡ put org₀ at (originsOf (marks w i))
+  pub orgs : org ≡ put org₀ at (originsOf (wordMarks w i j))
 
 -- the symbol x at i, kept and written at `at`
 pub record KeptPut (x i at taken : ℕ) (out₀ org₀ : List ℕ) (at′ end′ taken′ : ℕ) (out org : List ℕ) : Type 0 where

@@ -64,7 +64,7 @@ fn write_position(
 ) -> Spot
     requires { ⌜ Lent (now book) rules (now places) (now masks) (now words) ⌝ }
     requires { ⌜ RightSets (now book) (now tape) (now sets) (now scratch) ⌝ }
-    requires { ⌜ (i < length (now tape)) × (i < longestTape) × (left ≡ leftAt (bookOf (now book)) (now tape) i) × (s .taken ≤ longestTape) ⌝ }
+    requires { ⌜ (i < length (now tape)) × (length (now tape) ≤ longestTape) × (left ≡ leftAt (bookOf (now book)) (now tape) i) × (s .taken ≤ longestTape) ⌝ }
     requires { ⌜ MarksFit (rulesIn (now book)) (now tape) i (s .at) (s .end) (now out) (now origins) ⌝ }
     requires { ⌜ Remembers (bookOf (now book)) (now steps) (now symbols) ⌝ }
     ensures { λ r. ⌜ MarksPut (rulesIn (now (book .entry))) (now (tape .entry)) i (s .at) (s .end) (s .taken) (now (out .entry)) (now (origins .entry))
@@ -98,7 +98,7 @@ fn write_position(
     if stop == i { // nothing is taken here
         return keep(tape, i, out, origins, at, taken);
     }
-    let next = put_word(book, words[rule] as usize, i, out, origins, at);
+    let next = put_word(book, words[rule] as usize, i, stop, out, origins, at);
     let many = taken + 1;
     Spot {
         at: next,

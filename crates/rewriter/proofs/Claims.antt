@@ -4,7 +4,7 @@ use Prim.Native.Nat.{ℕ, _+_, _*_, _≤_, _<_}
 use mathlib.Core.List.{List, [], _∷_, map, List·Memᴰ}
 use mathlib.Core.Path.{_≡_}
 use mathlib.Core.Logic.{_↔_, _⊎_}
-use lib.ListN.{length}
+use lib.ListN.{length, take, getD}
 use lib.Seq.{slice}
 use Rattle.book.specs.Reading.{Book, checkDef}
 use Rattle.book.specs.Language.{Rules, rules, rulesIn}
@@ -13,14 +13,16 @@ use Rattle.stretches.specs.Output.{Mark, rewriting, symbolsOf, originsOf}
 use Rattle.stretches.specs.Account.{Line, account, lineLength, wordsIn}
 use Rattle.stretches.specs.Buffers.{onto}
 use Rattle.rewriter.specs.Show.{between, boundsOf, showDef}
-use Rattle.rewriter.specs.Replies.{accountDef}
+use Rattle.rewriter.specs.Replies.{AfterRewrite, rewriteDef, accountDef}
 use Rattle.stretches.specs.Paper.{Context, start, end, RC, BookRC, C, Earliest, Over, Overlap, CLM, CLML, RewriteLML}
 use Rattle.stretches.specs.Sentences.{Candidate, Taken, Takes, TakesBy, Sorted, SameCandidate, lineNumber, candidateCount}
 use Rattle.stretches.specs.Sentences.{Judged, Decides, takenLines, lineOf}
 use Rattle.stretches.specs.Sentences.{Chain, replace, removed, writes, keptSymbols, writtenWords, Shuffled}
-use Rattle.stretches.specs.Sentences.{symbolsFrom, originsFrom, Traced}
+use Rattle.stretches.specs.Sentences.{symbolsFrom, originsFrom, Traced, NeverFalls}
+use Rattle.stretches.specs.Before.{replaceAtStarts, ShortWords}
 use Rattle.stretches.specs.Books.{bookP}
 use Rattle.stretches.specs.Table.{rewritten, rows, tape8, table}
+use Rattle.stretches.specs.Times.{timed, both-times}
 use Rattle.stretches.proofs.Greedy as Greedy
 use Rattle.stretches.proofs.Walks as Walks
 use Rattle.stretches.proofs.Stretches as Stretches
@@ -31,15 +33,22 @@ use Rattle.stretches.proofs.Replaced as Replaced
 use Rattle.stretches.proofs.Lengths as Lengths
 use Rattle.stretches.proofs.Kept as Kept
 use Rattle.stretches.proofs.Origins as Origins
+use Rattle.stretches.proofs.Rising as Rising
+use Rattle.stretches.proofs.Before as Before
 use Rattle.stretches.proofs.Counts as Counts
 use Rattle.stretches.proofs.Batches as Batches
 use Rattle.stretches.proofs.NoEmpty as NoEmpty
 use Rattle.rewriter.proofs.Showing as Showing
 use Rattle.rewriter.proofs.ShownAfter as ShownAfter
+use Rattle.rewriter.proofs.TimesAfter as TimesAfter
 
 -- 0. The proved table: cases 1 to 11 of document 01, from the books' bytes. (P's account of case 8 is `account8` beside it.)
 pub proved-table : map rewritten rows ≡ rows
 proved-table = table
+
+-- A row beside it, with words of two and of three symbols (document 02, No. 4).
+pub timed-row : rewritten timed ≡ timed
+timed-row = both-times
 
 -- 1. Source document 001.
 
@@ -104,8 +113,9 @@ module _ (b : Rules) (t : List ℕ) where
   pub symbol-each : symbolsOf (rewriting b t) ≡ symbolsFrom b t 0 (takenLines (account b t))
   symbol-each = Origins.rewriting-symbols b t
 
-  -- "Each output symbol has a 16-bit origin: a kept symbol its own position, every symbol of a replacement the start of the stretch": all origins,
-  -- stretch by stretch; what each output symbol is; and there are as many of the one as of the other
+  -- "Each output symbol has a 16-bit origin: a kept symbol its own position"; document 02, No. 4: "When a replacement has two or more symbols, the last
+  -- one's origin is the last position of the stretch; the others keep the start": all origins, stretch by stretch; what each output symbol is; and
+  -- there are as many of the one as of the other
   pub origin-each : originsOf (rewriting b t) ≡ originsFrom b t 0 (takenLines (account b t))
   origin-each = Origins.rewriting-origins b t
 
@@ -117,6 +127,18 @@ module _ (b : Rules) (t : List ℕ) where
 
   pub origin-count : length (originsOf (rewriting b t)) ≡ length (rewriting b t)
   origin-count = Counts.origins-length (rewriting b t)
+
+  -- along the output no origin is below one before it
+  pub origins-never-fall : NeverFalls (originsOf (rewriting b t))
+  origins-never-fall = Rising.rewriting-rises b t
+
+  -- document 02, No. 4, "Outputs .. stay as they are": the symbols are those of before, with every symbol of a replacement at the start of its stretch;
+  -- and where no replacement has two or more symbols, so are the origins
+  pub output-as-before : symbolsOf (rewriting b t) ≡ symbolsOf (replaceAtStarts b t 0 (takenLines (account b t)))
+  output-as-before = Before.symbols-before b t
+
+  pub short-as-before : ShortWords b → rewriting b t ≡ replaceAtStarts b t 0 (takenLines (account b t))
+  short-as-before = Before.short-before b t
 
   -- 4. Document 01, the account: each candidate and nothing else
   pub lines-are-candidates : (i j r : ℕ) → Candidate b t i j r ↔ ((l : Line) × List·Memᴰ l (account b t) × (l .start ≡ i) × (l .end ≡ j) × (l .rule ≡ r))
@@ -176,6 +198,10 @@ module _ (b : Rules) (t : List ℕ) where
 pub accepted-past : (s : List ℕ) → checkDef s .reply ≡ 0 → (t : List ℕ) (i j r : ℕ) → Candidate (rulesIn s) t i j r → i < j
 accepted-past s h t = NoEmpty.past-start (rulesIn s) t (NoEmpty.no-empty s h)
 
+-- so each origin is a position of the tape
+pub origin-on-tape : (s : List ℕ) → checkDef s .reply ≡ 0 → (t : List ℕ) (m : Mark) → List·Memᴰ m (rewriting (rulesIn s) t) → m .origin < length t
+origin-on-tape s h t = Rising.origin-inside (rulesIn s) t (NoEmpty.no-empty s h)
+
 -- 6. SHOW of a line of an account is its candidate's stretch, where the account stands at the front of any lines; and so it stands after ACCOUNT:
 -- the stretch's bounds, and what stands in it.
 pub shown-is-stretch : (s t lines : List ℕ) → checkDef s .reply ≡ 0 → (k : ℕ) → k < length (account (rulesIn s) t)
@@ -193,3 +219,15 @@ module _ (s t rows sets scratch lines : List ℕ) (k : ℕ) where
       → slice (lineNumber (account (rulesIn s) t) k .start) (lineNumber (account (rulesIn s) t) k .end) t
       ≡ showDef t (accountDef s t rows sets scratch lines .lines) k
   shown-symbols = ShownAfter.symbols-after s t rows sets scratch lines k
+
+-- 7. After REWRITE, whatever was lent: the origins that the answer counts never fall, and each is a position of the tape. That is what a printed time
+-- needs.
+module _ (s t rows sets scratch out origins : List ℕ) where
+  abbrev after : AfterRewrite
+  after = rewriteDef s t rows sets scratch out origins
+
+  pub times-never-fall : NeverFalls (take (after .answer .length) (after .origins))
+  times-never-fall = TimesAfter.times-rise s t rows sets scratch out origins
+
+  pub times-on-tape : (k : ℕ) → k < after .answer .length → getD (after .origins) k 0 < length t
+  times-on-tape = TimesAfter.times-inside s t rows sets scratch out origins

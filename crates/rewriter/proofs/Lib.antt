@@ -7,6 +7,7 @@ pub mod Whole
 pub mod Showing
 pub mod ShownAfter
 pub mod Standing
+pub mod TimesAfter
 -- What the crates above may rely on, and the theorems on one page.
 pub mod Callers
 pub mod One

@@ -8,12 +8,13 @@ use native.Mathlib.Decide.{decLt}
 use lib.ListN.{length, length-append}
 use Rattle.book.specs.Language.{Rules}
 use Rattle.stretches.specs.Candidates.{Stretch}
-use Rattle.stretches.specs.Output.{marks, wordMarks, ruleWord, rewriting}
+use Rattle.stretches.specs.Output.{wordMarks, ruleWord, rewriting}
 use Rattle.stretches.specs.Account.{Line, each, account}
 use Rattle.stretches.specs.Sentences.{takenLines, lineOf, keptFrom, replace, Chain, removed, writes}
 use Rattle.stretches.proofs.Walks.{Walked, Place, inside, begins, alone, place}
 use Rattle.stretches.proofs.Stretches.{tk, tk-inside, tk-begins, tk-alone, taken-list}
 use Rattle.stretches.proofs.Accounts.{account-taken}
+use Rattle.stretches.proofs.WordMarks.{marks-length}
 use Rattle.stretches.proofs.Replaced.{skip, ds, Edge, edge-alone, edge-empty, edge-end, over-of, rewriting-account}
 
 chain-down : (t : List ℕ) (i : ℕ) (ls : List Line) → Chain t (suc i) ls → Chain t i ls
@@ -64,13 +65,6 @@ kept-length : (t : List ℕ) (a n : ℕ) → length (keptFrom t a n) ≡ n
 kept-length t a zero = refl
 kept-length t a (suc n) = ap suc (kept-length t (suc a) n)
 
-pub marks-length : (w : List ℕ) (i : ℕ) → length (marks w i) ≡ length w
-marks-length [] i = refl
-marks-length (x ∷ w) i = ap suc (marks-length w i)
-
-word-length : (w : List ℕ) (i j : ℕ) → length (wordMarks w i j) ≡ length w
-word-length w i j = marks-length w i
-
 replace-length : (b : Rules) (t : List ℕ) (a : ℕ) (ls : List Line) → Chain t a ls → length (replace b t a ls) + removed ls ≡ (length t - a) + writes b ls
 replace-length b t a [] h = let e = kept-length t a (length t - a) in omega arith
 replace-length b t a (l ∷ ls) h =
@@ -82,7 +76,7 @@ replace-length b t a (l ∷ ls) h =
     let u = length-append (keptFrom t a (l .start - a)) (W ++ replace b t (l .end) ls) in
     let v = length-append W (replace b t (l .end) ls) in
     let k = kept-length t a (l .start - a) in
-    let m = word-length (ruleWord b (l .rule)) (l .start) (l .end) in
+    let m = marks-length (ruleWord b (l .rule)) (l .start) (l .end) in
     omega arith
 
 -- the output's length, from the lines with verdict 0

@@ -10,6 +10,7 @@ pub mod Words
 pub mod Greedy
 pub mod Smallest
 -- What the definitions mean: the stretches taken, the output and its origins, the account; compared with Paper and Sentences.
+pub mod WordMarks
 pub mod Walks
 pub mod Stretches
 pub mod Rewritings
@@ -20,6 +21,8 @@ pub mod Replaced
 pub mod Lengths
 pub mod Kept
 pub mod Origins
+pub mod Rising
+pub mod Before
 pub mod Batches
 -- Laws of the passes over a tape, position after position: that the sets find the candidates, and that what is found is what is taken.
 pub mod NoEmpty

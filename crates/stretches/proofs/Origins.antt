@@ -13,32 +13,17 @@ use Rattle.stretches.specs.Candidates.{Stretch, ruleOf, taken}
 use Rattle.stretches.specs.Output.{Mark, keptMarks, wordMarks, ruleWord, written, rewriting, symbolsOf, originsOf}
 use Rattle.stretches.specs.Account.{Line, account}
 use Rattle.stretches.specs.Sentences.{Takes, takenLines, Chain, keptFrom, replace, covered, keptSymbols, writtenWords}
-use Rattle.stretches.specs.Sentences.{Shuffled, none, left, right, symbolsFrom, wordOrigins, originsFrom, Traced, kept, replaced}
+use Rattle.stretches.specs.Sentences.{Shuffled, none, left, right, symbolsFrom, originsFrom, Traced, kept, replaced}
 use Rattle.stretches.proofs.Lists.{each-out}
 use Rattle.stretches.proofs.Stretches.{each-walked, taken-walked}
+use Rattle.stretches.proofs.WordMarks.{origins-append, symbols-append, marks-origins, marks-symbols, marks-out}
 use Rattle.stretches.proofs.Replaced.{rewriting-account}
 use Rattle.stretches.proofs.Lengths.{taken-chain}
 use Rattle.stretches.proofs.Kept.{rewriting-shuffled}
 
-origins-append : (xs ys : List Mark) → originsOf (xs ++ ys) ≡ originsOf xs ++ originsOf ys
-origins-append [] ys = refl
-origins-append (x ∷ xs) ys = ap (λ (l : List ℕ). x .origin ∷ l) (origins-append xs ys)
-
-symbols-append : (xs ys : List Mark) → symbolsOf (xs ++ ys) ≡ symbolsOf xs ++ symbolsOf ys
-symbols-append [] ys = refl
-symbols-append (x ∷ xs) ys = ap (λ (l : List ℕ). x .symbol ∷ l) (symbols-append xs ys)
-
 origins-kept : (t : List ℕ) (a n : ℕ) → originsOf (keptFrom t a n) ≡ upFrom a n
 origins-kept t a zero = refl
 origins-kept t a (suc n) = ap (λ (l : List ℕ). a ∷ l) (origins-kept t (suc a) n)
-
-origins-word : (w : List ℕ) (i j : ℕ) → originsOf (wordMarks w i j) ≡ wordOrigins (length w) i j
-origins-word [] i j = refl
-origins-word (x ∷ w) i j = ap (λ (l : List ℕ). i ∷ l) (origins-word w i j)
-
-symbols-word : (w : List ℕ) (i j : ℕ) → symbolsOf (wordMarks w i j) ≡ w
-symbols-word [] i j = refl
-symbols-word (x ∷ w) i j = ap (λ (l : List ℕ). x ∷ l) (symbols-word w i j)
 
 symbols-kept : (t : List ℕ) (a n e : ℕ) → a + n ≡ e → e ≤ length t → symbolsOf (keptFrom t a n) ≡ slice a e t
 symbols-kept t a zero e h g = let q : a ≡ e = omega arith in sym (ap (λ (x : ℕ). slice x e t) q ∙ slice-empty e t)
@@ -52,7 +37,7 @@ replace-origins b t a (l ∷ ls) =
     origins-append (keptFrom t a (l .start - a)) (w ++ replace b t (l .end) ls)
     ∙ ap₂ (λ (x y : List ℕ). x ++ y) (origins-kept t a (l .start - a))
     (origins-append w (replace b t (l .end) ls)
-    ∙ ap₂ (λ (x y : List ℕ). x ++ y) (origins-word (ruleWord b (l .rule)) (l .start) (l .end)) (replace-origins b t (l .end) ls))
+    ∙ ap₂ (λ (x y : List ℕ). x ++ y) (marks-origins (ruleWord b (l .rule)) (l .start) (l .end)) (replace-origins b t (l .end) ls))
 
 replace-symbols : (b : Rules) (t : List ℕ) (a : ℕ) (ls : List Line) → a ≤ length t → Chain t a ls
     → symbolsOf (replace b t a ls) ≡ symbolsFrom b t a ls
@@ -66,7 +51,7 @@ replace-symbols b t a (l ∷ ls) h c =
     symbols-append (keptFrom t a (l .start - a)) (w ++ replace b t (l .end) ls)
     ∙ ap₂ (λ (x y : List ℕ). x ++ y) (symbols-kept t a (l .start - a) (l .start) (omega arith) (omega arith))
     (symbols-append w (replace b t (l .end) ls)
-    ∙ ap₂ (λ (x y : List ℕ). x ++ y) (symbols-word (ruleWord b (l .rule)) (l .start) (l .end)) (replace-symbols b t (l .end) ls r (c .3)))
+    ∙ ap₂ (λ (x y : List ℕ). x ++ y) (marks-symbols (ruleWord b (l .rule)) (l .start) (l .end)) (replace-symbols b t (l .end) ls r (c .3)))
 
 shuffled-out : {xs ys zs : List Mark} → Shuffled xs ys zs → (m : Mark) → List·Memᴰ m zs → List·Memᴰ m xs ⊎ List·Memᴰ m ys
 shuffled-out none m z = elim z [ ]
@@ -74,12 +59,6 @@ shuffled-out (left p) m (List·Memᴰ·head e) = inl (List·Memᴰ·head e)
 shuffled-out (left p) m (List·Memᴰ·tail z) = ⊎-elim (λ u. inl (List·Memᴰ·tail u)) (λ u. inr u) (shuffled-out p m z)
 shuffled-out (right p) m (List·Memᴰ·head e) = inr (List·Memᴰ·head e)
 shuffled-out (right p) m (List·Memᴰ·tail z) = ⊎-elim (λ u. inl u) (λ u. inr (List·Memᴰ·tail u)) (shuffled-out p m z)
-
--- a symbol of a word
-word-out : (w : List ℕ) (i j : ℕ) (m : Mark) → List·Memᴰ m (wordMarks w i j) → (i ≡ m .origin) × List·Memᴰ (m .symbol) w
-word-out [] i j m z = elim z [ ]
-word-out (x ∷ w) i j m (List·Memᴰ·head e) = (λ k. sym e k .origin, List·Memᴰ·head (λ k. e k .symbol))
-word-out (x ∷ w) i j m (List·Memᴰ·tail z) = let u = word-out w i j m z in (u .0, List·Memᴰ·tail (u .1))
 
 -- a symbol that is kept at i unless it is covered
 kept-out : (c : Bool) (x i : ℕ) (m : Mark) → List·Memᴰ m (cond c [] (keptMarks (x ∷ []) i)) → (c ≡ false) × (m ≡ record { symbol = x; origin = i })
@@ -114,10 +93,8 @@ module _ (b : Rules) (t : List ℕ) where
   word-traced m z =
       let u = word-of (taken b t) m z in
       let d = u .0 in
-      let v = word-out (ruleWord b (ruleOf b t (d .start) (d .end))) (d .start) (d .end) m (u .2) in
-      replaced (d .end)
-      (subst (λ (i : ℕ). Takes b t i (d .end)) (v .0) (taken-walked b t (d .start) (d .end) .1 (each-walked b t d (u .1))))
-      (subst (λ (i : ℕ). List·Memᴰ (m .symbol) (ruleWord b (ruleOf b t i (d .end)))) (v .0) (v .1))
+      let v = marks-out (ruleWord b (ruleOf b t (d .start) (d .end))) (d .start) (d .end) m (u .2) in
+      replaced (d .start) (d .end) (v .0) (taken-walked b t (d .start) (d .end) .1 (each-walked b t d (u .1))) (v .1)
 
   pub rewriting-traced : (m : Mark) → List·Memᴰ m (rewriting b t) → Traced b t m
   rewriting-traced m z = ⊎-elim (kept-traced m) (word-traced m) (shuffled-out (rewriting-shuffled b t) m z)

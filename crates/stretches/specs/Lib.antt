@@ -6,12 +6,15 @@ pub mod Buffers
 -- Believed too, and compared with those by theorems: source document 001 line by line, and the sentences of document 01.
 pub mod Paper
 pub mod Sentences
+-- The readings before a request of document 02, for the theorems that say what stays.
+pub mod Before
 -- For the contracts of inner functions, and for the crates above: each is proved of what the believed files say.
 pub mod Lists
 pub mod Ready
 pub mod Position
--- Examples: the books and tapes worked by hand, a tape for the deciding rules, and two tapes with words put in.
+-- Examples: the books and tapes worked by hand, a tape for the deciding rules, one for the origins of longer words, and two with words put in.
 pub mod Books
 pub mod Table
 pub mod Rivals
+pub mod Times
 pub mod Insertions

@@ -1,10 +1,11 @@
 -- Document 01: "The output replaces each taken stretch by its rule's word and keeps the rest. Each output symbol has a 16-bit origin: a kept
--- symbol its own position, every symbol of a replacement the start of the stretch."
-use Prim.Native.Nat.{ℕ}
+-- symbol its own position, every symbol of a replacement the start of the stretch", and since document 02, No. 4: "When a replacement has two or
+-- more symbols, the last one's origin is the last position of the stretch; the others keep the start."
+use Prim.Native.Nat.{ℕ, suc, _-_, max}
 use mathlib.Core.List.{List, [], _∷_, _++_}
-use mathlib.Core.Bool.{cond}
-use lib.Dec.{ltb}
-use lib.ListN.{getD}
+use mathlib.Core.Bool.{cond, _&&_}
+use lib.Dec.{eqb, ltb}
+use lib.ListN.{length, getD}
 use Rattle.book.specs.Language.{Rules}
 use Rattle.stretches.specs.Candidates.{Stretch, ruleOf, overTape}
 
@@ -22,9 +23,22 @@ marks (x ∷ xs) o = record { symbol = x; origin = o } ∷ marks xs o
 abbrev pub keptMarks : List ℕ → ℕ → List Mark
 keptMarks x i = marks x i
 
--- "every symbol of a replacement the start of the stretch", here from i to j
+-- "the last position of the stretch", here from i to j; of an empty one its own
+abbrev pub lastPosition : ℕ → ℕ → ℕ
+lastPosition i j = max i (j - 1)
+
+-- the origin of symbol k, counted from 0, of a replacement of n symbols: "When a replacement has two or more symbols, the last one's origin is the
+-- last position of the stretch; the others keep the start"
+abbrev pub wordOrigin : ℕ → ℕ → ℕ → ℕ → ℕ
+wordOrigin n i j k = cond (ltb 1 n && eqb (suc k) n) (lastPosition i j) i
+
+-- the symbols of a replacement of n from symbol k on, with their origins
+abbrev pub marksFrom : ℕ → ℕ → ℕ → ℕ → List ℕ → List Mark
+marksFrom n i j k [] = []
+marksFrom n i j k (x ∷ xs) = record { symbol = x; origin = wordOrigin n i j k } ∷ marksFrom n i j (suc k) xs
+
 abbrev pub wordMarks : List ℕ → ℕ → ℕ → List Mark
-wordMarks w i j = marks w i
+wordMarks w i j = marksFrom (length w) i j 0 w
 
 -- "its rule's word"
 abbrev pub ruleWord : Rules → ℕ → List ℕ

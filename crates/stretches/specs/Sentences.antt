@@ -10,7 +10,7 @@ use lib.ListN.{length, getD, drop, replicate}
 use lib.Seq.{slice}
 use Rattle.book.specs.Language.{Rules, any, upFrom}
 use Rattle.stretches.specs.Candidates.{Stretch, candidate, ruleOf, taken}
-use Rattle.stretches.specs.Output.{Mark, keptMarks, wordMarks, ruleWord, written}
+use Rattle.stretches.specs.Output.{Mark, keptMarks, lastPosition, wordMarks, ruleWord, written}
 use Rattle.stretches.specs.Account.{Line, judge, each}
 
 -- 1. taken starts
@@ -179,9 +179,12 @@ abbrev pub symbolsFrom : Rules → List ℕ → ℕ → List Line → List ℕ
 symbolsFrom b t a [] = drop a t
 symbolsFrom b t a (l ∷ ls) = slice a (l .start) t ++ (ruleWord b (l .rule) ++ symbolsFrom b t (l .end) ls)
 
--- "every symbol of a replacement the start of the stretch": the origins of n symbols that stand for the stretch from i to j
+-- document 02, No. 4, "When a replacement has two or more symbols, the last one's origin is the last position of the stretch; the others keep the
+-- start": the origins of n symbols that stand for the stretch from i to j
 abbrev pub wordOrigins : ℕ → ℕ → ℕ → List ℕ
-wordOrigins n i j = replicate n i
+wordOrigins zero i j = []
+wordOrigins (suc zero) i j = i ∷ []
+wordOrigins (suc (suc n)) i j = replicate (suc n) i ++ (lastPosition i j ∷ [])
 
 -- "a kept symbol its own position", and the words in their places, from position a on
 abbrev pub originsFrom : Rules → List ℕ → ℕ → List Line → List ℕ
@@ -189,8 +192,20 @@ originsFrom b t a [] = upFrom a (length t - a)
 originsFrom b t a (l ∷ ls) =
     upFrom a (l .start - a) ++ (wordOrigins (length (ruleWord b (l .rule))) (l .start) (l .end) ++ originsFrom b t (l .end) ls)
 
--- what one output symbol is: a symbol that no taken stretch covers, with its own position; or one of the word of a taken stretch, with that
--- stretch's start
+-- m is symbol k of the word w, which stands for the stretch from i to j: "When a replacement has two or more symbols, the last one's origin is the
+-- last position of the stretch; the others keep the start"
+pub record Spelled (w : List ℕ) (i j k : ℕ) (m : Mark) : Type 0 where
+  pub within : k < length w
+  pub symbol : m .symbol ≡ getD w k 0
+  pub one : length w ≡ 1 → m .origin ≡ i
+  pub last : 1 < length w → suc k ≡ length w → m .origin ≡ lastPosition i j
+  pub other : suc k < length w → m .origin ≡ i
+
+-- what one output symbol is: a symbol that no taken stretch covers, with its own position; or one of the word of a taken stretch
 pub data Traced (b : Rules) (t : List ℕ) (m : Mark) : Type 0 where
   kept : m .origin < length t → covered (taken b t) (m .origin) ≡ false → m .symbol ≡ getD t (m .origin) 0 → Traced b t m
-  replaced : (j : ℕ) → Takes b t (m .origin) j → List·Memᴰ (m .symbol) (ruleWord b (ruleOf b t (m .origin) j)) → Traced b t m
+  replaced : (i j k : ℕ) → Takes b t i j → Spelled (ruleWord b (ruleOf b t i j)) i j k m → Traced b t m
+
+-- no number of the list is below one before it
+abbrev pub NeverFalls : List ℕ → Type 0
+NeverFalls l = (j k : ℕ) → j ≤ k → k < length l → getD l j 0 ≤ getD l k 0

@@ -3,7 +3,7 @@ use Prim.Native.Nat.{_≤_}
 use mathlib.Core.Path.{refl}
 use native.Mathlib.Omega.{arith}
 use borrow.Author.Needs.{needs}
-use Rattle.output.proofs.Positions.{takes-nothing, put-in, kept-fits, put-keep, known-rule, stands, word-fits, put-replace}
+use Rattle.output.proofs.Positions.{takes-nothing, put-in, kept-fits, put-keep, stretch-fits, known-rule, stands, word-fits, put-replace}
 use Rattle.output.proofs.passes.write_position.Statement.{statement}
 use Rattle.output.proofs.passes.write_position.Tie as tie
 
@@ -33,7 +33,7 @@ keep-requires c κs =
     let r =
     kept-fits (a .book .now) (s .pre .1 .0 .accepted) (a .tape .now) (a .i) (a .s .end) (omega (arith, if1 .left))
     (a .i) 0 t refl (a .s .at) (a .out .now) (a .origins .now) (s .pre .1 .1 .1 .0) in
-    (s .pre .1 .1 .0 .0, s .pre .1 .1 .0 .1, r .0, r .1)
+    (s .pre .1 .1 .0 .0, omega (arith, s .pre .1 .1 .0), r .0, r .1)
 
 same-length : tie.Need-same-length
 same-length c = search needs
@@ -73,7 +73,7 @@ keep-requires-2 c κs =
     let r =
     kept-fits (a .book .now) (s .pre .1 .0 .accepted) (a .tape .now) (a .i) (a .s .end) (omega (arith, if1 .left))
     (t .result .end) (t .result .rule) (t .ensures .0) (c .before .before .if3 .taken) (a .s .at) (a .out .now) (a .origins .now) (s .pre .1 .1 .1 .0) in
-    (s .pre .1 .1 .0 .0, s .pre .1 .1 .0 .1, r .0, r .1)
+    (s .pre .1 .1 .0 .0, omega (arith, s .pre .1 .1 .0), r .0, r .1)
 
 same-length-3 : tie.Need-same-length-3
 same-length-3 c = search needs
@@ -137,11 +137,14 @@ put-word-requires c κs =
     let s = c .before .before .before .before .before .before .before .before .before .before .before .before .before .before .before .before .before in
     let a = s .args in
     let t = c .before .before .before .before .taken-at in
-    let new : a .s .end ≤ a .i = omega (arith, if1 .left) in (
+    let new : a .s .end ≤ a .i = omega (arith, if1 .left) in
+    let cut =
+    stretch-fits (a .book .now) (s .pre .1 .0 .accepted) (a .tape .now) (a .i) (a .s .end) new
+    (t .result .end) (t .result .rule) (t .ensures .0) (if3 .left) (a .words .now) (s .pre .0 .words-at) (s .pre .1 .1 .0 .0) in (
       stands (a .book .now) (s .pre .1 .0 .accepted) (a .tape .now) (a .i) (a .s .end) new
           (t .result .end) (t .result .rule) (t .ensures .0) (if3 .left) (a .words .now) (s .pre .0 .words-at) .room,
       (
-        omega (arith, s .pre .1 .1 .0),
+        (cut .0, omega (arith, cut .1, s .pre .1 .1 .0 .1)),
         word-fits (a .book .now) (s .pre .1 .0 .accepted) (a .tape .now) (a .i) (a .s .end) new
             (t .result .end) (t .result .rule) (t .ensures .0) (if3 .left) (a .words .now) (s .pre .0 .words-at)
             (a .s .at) (a .out .now) (a .origins .now) (s .pre .1 .1 .1 .0),

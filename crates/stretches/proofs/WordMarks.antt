@@ -1,0 +1,103 @@
+-- The symbols and the origins of what is written; of a replacement its length, its symbols, and the origin of each. Assumes nothing.
+use Prim.Native.Nat.{ℕ, zero, suc, _+_, _≤_, _<_}
+use mathlib.Core.List.{List, [], _∷_, _++_, List·Memᴰ, List·Memᴰ·head, List·Memᴰ·tail}
+use mathlib.Core.Path.{_≡_, refl, ap, _∙_}
+use mathlib.Core.Logic.{by-cases}
+use native.Mathlib.Omega.{arith}
+use native.Mathlib.Decide.{decLt}
+use borrow.Author.Tests.{lt-ltb, le-ltb, eq-eqb, ne-eqb}
+use lib.ListN.{length, getD, replicate}
+use Rattle.stretches.specs.Output.{Mark, symbolsOf, originsOf, lastPosition, wordOrigin, marksFrom, wordMarks}
+use Rattle.stretches.specs.Sentences.{wordOrigins, Spelled}
+
+pub origins-append : (xs ys : List Mark) → originsOf (xs ++ ys) ≡ originsOf xs ++ originsOf ys
+origins-append [] ys = refl
+origins-append (x ∷ xs) ys = ap (λ (l : List ℕ). x .origin ∷ l) (origins-append xs ys)
+
+pub symbols-append : (xs ys : List Mark) → symbolsOf (xs ++ ys) ≡ symbolsOf xs ++ symbolsOf ys
+symbols-append [] ys = refl
+symbols-append (x ∷ xs) ys = ap (λ (l : List ℕ). x .symbol ∷ l) (symbols-append xs ys)
+
+-- "When a replacement has two or more symbols, the last one's origin is the last position of the stretch; the others keep the start"
+pub origin-one : (n i j k : ℕ) → n ≤ 1 → wordOrigin n i j k ≡ i
+origin-one n i j k h = simp (le-ltb 1 n h)
+
+pub origin-last : (n i j k : ℕ) → 1 < n → suc k ≡ n → wordOrigin n i j k ≡ lastPosition i j
+origin-last n i j k h e = simp (lt-ltb 1 n h, eq-eqb (suc k) n e)
+
+pub origin-other : (n i j k : ℕ) → suc k < n → wordOrigin n i j k ≡ i
+origin-other n i j k h = let q : suc k ≡ n → ⊥ = λ e. omega arith in simp (lt-ltb 1 n (omega arith), ne-eqb (suc k) n q)
+
+module _ (n i j : ℕ) where
+  from-length : (k : ℕ) (w : List ℕ) → length (marksFrom n i j k w) ≡ length w
+  from-length k [] = refl
+  from-length k (x ∷ w) = ap suc (from-length (suc k) w)
+
+  from-symbols : (k : ℕ) (w : List ℕ) → symbolsOf (marksFrom n i j k w) ≡ w
+  from-symbols k [] = refl
+  from-symbols k (x ∷ w) = ap (λ (l : List ℕ). x ∷ l) (from-symbols (suc k) w)
+
+  from-origin : (k : ℕ) (w : List ℕ) (m : ℕ) → m < length w → getD (originsOf (marksFrom n i j k w)) m 0 ≡ wordOrigin n i j (k + m)
+  from-origin k [] m h = absurd (omega arith)
+  from-origin k (x ∷ w) zero h = let e : k ≡ k + 0 = omega arith in ap (wordOrigin n i j) e
+  from-origin k (x ∷ w) (suc m) h =
+      let e : suc k + m ≡ k + suc m = omega arith in from-origin (suc k) w m (omega arith) ∙ ap (wordOrigin n i j) e
+
+  -- the origins of all that follow symbol k, and its own, where they end the word
+  from-origins : (k x : ℕ) (w : List ℕ) → 1 < n → k + suc (length w) ≡ n
+      → originsOf (marksFrom n i j k (x ∷ w)) ≡ replicate (length w) i ++ (lastPosition i j ∷ [])
+  from-origins k x [] h e = ap (λ (o : ℕ). o ∷ []) (origin-last n i j k h (omega arith))
+  from-origins k x (y ∷ w) h e =
+      ap (λ (o : ℕ). o ∷ originsOf (marksFrom n i j (suc k) (y ∷ w))) (origin-other n i j k (omega arith))
+      ∙ ap (λ (l : List ℕ). i ∷ l) (from-origins (suc k) y w h (omega arith))
+
+pub marks-length : (w : List ℕ) (i j : ℕ) → length (wordMarks w i j) ≡ length w
+marks-length w i j = from-length (length w) i j 0 w
+
+pub marks-symbols : (w : List ℕ) (i j : ℕ) → symbolsOf (wordMarks w i j) ≡ w
+marks-symbols w i j = from-symbols (length w) i j 0 w
+
+pub marks-origin : (w : List ℕ) (i j k : ℕ) → k < length w → getD (originsOf (wordMarks w i j)) k 0 ≡ wordOrigin (length w) i j k
+marks-origin w i j k h = from-origin (length w) i j 0 w k h ∙ ap (wordOrigin (length w) i j) (let e : 0 + k ≡ k = omega arith in e)
+
+pub marks-origins : (w : List ℕ) (i j : ℕ) → originsOf (wordMarks w i j) ≡ wordOrigins (length w) i j
+marks-origins [] i j = refl
+marks-origins (x ∷ []) i j = refl
+marks-origins (x ∷ y ∷ w) i j = from-origins (length (x ∷ y ∷ w)) i j 0 x (y ∷ w) (omega arith) (omega arith)
+
+-- each symbol of a replacement with its origin
+module _ (w : List ℕ) (i j : ℕ) (m : Mark) where
+  from-out : (k : ℕ) (v : List ℕ) → List·Memᴰ m (marksFrom (length w) i j k v)
+      → (l : ℕ) × (l < length v) × (m .symbol ≡ getD v l 0) × (m .origin ≡ wordOrigin (length w) i j (k + l))
+  from-out k [] z = elim z [ ]
+  from-out k (x ∷ v) (List·Memᴰ·head e) =
+      let q : k ≡ k + 0 = omega arith in (0, omega arith, λ u. e u .symbol, (λ u. e u .origin) ∙ ap (wordOrigin (length w) i j) q)
+  from-out k (x ∷ v) (List·Memᴰ·tail z) =
+      let r = from-out (suc k) v z in
+      let h = r .1 in
+      let q : suc k + r .0 ≡ k + suc (r .0) = omega arith in
+      (suc (r .0), omega arith, r .2, r .3 ∙ ap (wordOrigin (length w) i j) q)
+
+  pub marks-out : List·Memᴰ m (wordMarks w i j) → (k : ℕ) × Spelled w i j k m
+  marks-out z =
+      let r = from-out 0 w z in
+      let k = r .0 in
+      let q : 0 + k ≡ k = omega arith in
+      let e = r .3 ∙ ap (wordOrigin (length w) i j) q in (
+        k,
+        record {
+          within = r .1;
+          symbol = r .2;
+          one = λ h. e ∙ origin-one (length w) i j k (omega arith);
+          last = λ h g. e ∙ origin-last (length w) i j k h g;
+          other = λ h. e ∙ origin-other (length w) i j k h;
+        },
+      )
+
+  -- none is later than the last position
+  pub spelled-most : (k : ℕ) → Spelled w i j k m → m .origin ≤ lastPosition i j
+  spelled-most k s = by-cases (decLt (suc k) (length w))
+      (λ h. omega (arith, s .other h))
+      (λ h. by-cases (decLt 1 (length w))
+      (λ g. omega (arith, s .last g (omega (arith, s .within))))
+      (λ g. omega (arith, s .one (omega (arith, s .within)))))
