@@ -1,4 +1,4 @@
-/* The house book and the lane-four wave through the C face: every function once, then what three refusals leave. */
+/* The house book and the lane-four wave through the C face: every function once, then what three refusals leave, and the times of a touch. */
 #include <stdio.h>
 #include <stdlib.h>
 
@@ -27,14 +27,19 @@ static void say(const char *name, unsigned reply, unsigned expected, size_t plac
     }
 }
 
-static qafrendi_rewritten rewrite(const uint8_t *t, size_t n, size_t room)
+static qafrendi_rewritten rewrite_by(const uint8_t *book, size_t length, const uint8_t *t, size_t n, size_t room)
 {
     for (int i = 0; i < OUT; i++) {
         out[i] = OLD;
         origins[i] = OLD;
     }
     return qafrendi_rewrite(
-        house, BOOK, t, n, rows, QAFRENDI_ROW_BYTES, sets, QAFRENDI_SET_WORDS, scratch, QAFRENDI_SCRATCH, out, room, origins, room);
+        book, length, t, n, rows, QAFRENDI_ROW_BYTES, sets, QAFRENDI_SET_WORDS, scratch, QAFRENDI_SCRATCH, out, room, origins, room);
+}
+
+static qafrendi_rewritten rewrite(const uint8_t *t, size_t n, size_t room)
+{
+    return rewrite_by(house, BOOK, t, n, room);
 }
 
 static void print_out(qafrendi_rewritten r)
@@ -118,5 +123,18 @@ int main(void)
             printf(" %d from %d", out[k], origins[k]);
         printf("\n");
     }
+
+    /* a touch becomes press and release (press, any number of holds, release: state 1 to 2 to 3), and each prints with the time of its own event */
+    static const uint8_t contact[] = {
+        1, 2, 2, 4, 0, 0, 0, 0, 0, 0, 2, 0, 3, 2, 1, 1, 2, 1, 0, 2, 1, 2, 2, 2, 3, 3, 1, 2, 2, 2, 3, 2, 3, 3, 2, 3, 2, 4, 4, 3, 4,
+    };
+    static const uint8_t touch[] = {0, 2, 3, 3, 4, 5};
+    static const double seconds[] = {58.10, 58.42, 58.50, 58.60, 58.71, 58.77}; /* of each event on the tape */
+    w = rewrite_by(contact, sizeof contact, touch, sizeof touch, OUT);
+    say("touch", w.reply, QAFRENDI_ACCEPTED, w.place);
+    printf(", %zu taken;", w.taken);
+    for (size_t k = 0; k < w.length; k++)
+        printf(" %d at %.2f", out[k], seconds[origins[k]]);
+    printf("\n");
     return 0;
 }

@@ -140,7 +140,8 @@ qafrendi_built qafrendi_build(
  * Needs the workspace as BUILD does (it builds it from the book, whatever stands there), scratch of tape_length + 1 elements or
  * more, and room for the output: tape_length symbols where no word is longer than a focus, never more than 8 a symbol.
  * Writes the workspace; scratch 0 to tape_length, the number of the right set at each position; and, accepted, the first `length`
- * elements of out (symbols) and of origins (a kept symbol its own position, each symbol of a word the start of its stretch).
+ * elements of out (symbols) and of origins: positions of the tape, whose times the symbols have. A kept symbol has its own; of a word each
+ * symbol has the start of its stretch, but that the last of two or more has the stretch's last position. No origin is below one before it.
  * Never touches the book, the tape, nor the elements past those. */
 qafrendi_rewritten qafrendi_rewrite(
     const uint8_t *book, size_t book_length,
