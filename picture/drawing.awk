@@ -130,15 +130,13 @@ function give_lanes(first, after,    line, base, lanes, lane_end, n) {
 
 function tape_half(first, after, lanes,    i, line) {
   svg_open(first, after, TOP + BOX + 4 + lanes * LANE, "tape")
-  for (i = first; i < after; i++) cell((i - first) * CELL, i, symbol_at(i), i in in_taken ? " taken" : "", "")
+  for (i = first; i < after; i++) cell((i - first) * CELL, i, symbol_at(i), i in taken_line ? " taken" : "", "")
   for (line = 0; line < candidates; line++)
     if (in_row(line, first, after)) bar(line, first, after, TOP + BOX + 6 + lane[line] * LANE)
   print "</svg>"
 }
 
-function draw_tape(    row, half, after, lanes, line, i) {
-  for (line = 0; line < candidates; line++)
-    if (verdict[line] == 0) for (i = start[line]; i < end[line]; i++) in_taken[i]
+function draw_tape(    row, half, after, lanes) {
   for (row = 0; row < tape_length; row += ROW) {
     after = smaller(row + ROW, tape_length)
     lanes = give_lanes(row, after)
@@ -151,7 +149,7 @@ function draw_tape(    row, half, after, lanes, line, i) {
 function output_half(first, after,    i) {
   svg_open(first, after, TOP + BOX + 20, "output")
   for (i = first; i < after; i++)
-    cell((i - first) * CELL, i, substr(output, i + 1, 1), origin[i] in taken_at ? " taken" : "", "from " origin[i])
+    cell((i - first) * CELL, i, substr(output, i + 1, 1), replaced_line(i) < 0 ? "" : " taken", "from " origin[i])
   print "</svg>"
 }
 

@@ -54,7 +54,8 @@ function print_output() {
   print "<h2>The output</h2>"
   if (output_length == 0) { print "<p>The output is empty.</p>"; return }
   print "<p class=\"key\">Under each symbol stands its origin: a kept symbol’s own position on the tape, or the start of"
-  print "the stretch that was replaced" (candidates ? " (thick cells)" : "") ".</p>"
+  print "the stretch that was replaced" (candidates ? " (thick cells)" : "") ". Where two or more symbols replace a stretch,"
+  print "the last one’s origin is the stretch’s last position.</p>"
   draw_output()
 }
 
@@ -73,6 +74,7 @@ function print_account(    line) {
 END {
   if (failed) exit 1
   check_answer()
+  read_replacements()
   print_head()
   if (refused) print_refusal()
   print_summary()

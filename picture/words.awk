@@ -61,12 +61,20 @@ function symbols_word(word,    i, run, groups, out) {
 }
 
 # the positions of the deciding stretch
-function deciding_positions(line) { return positions_word(deciding_start[line], end[taken_at[deciding_start[line]]]) }
+function deciding_positions(line) { return positions_word(deciding_start[line], end[taken_line[deciding_start[line]]]) }
+
+# what replaces a taken stretch; both times where its symbols have two
+function replacement_words(line,    word) {
+  word = replacement[line]
+  if (first_origin[line] == last_origin[line]) return symbols_word(word)
+  return symbols_word(substr(word, 1, length(word) - 1)) " from position " first_origin[line] " and " \
+    symbols_word(substr(word, length(word))) " from position " last_origin[line]
+}
 
 # document 01, "The account": one sentence a line
 function verdict_words(line,    by) {
   by = rule_word(deciding_rule[line])
-  if (verdict[line] == 0) return "taken, replaced by " symbols_word(replacement(line))
+  if (verdict[line] == 0) return "taken, replaced by " replacement_words(line)
   if (verdict[line] == 1) return "shorter than " deciding_positions(line) ", taken at the same start by " by
   if (verdict[line] == 2) return "same stretch, " by " comes first"
   return "starts inside " deciding_positions(line) ", taken by " by
