@@ -5,7 +5,9 @@ use super::{Ready, Refusal};
 /// Where the output goes: it is measured by one sink and written by the other.
 trait Sink {
     fn keep(&mut self, symbol: u8, i: usize);
-    fn word(&mut self, word: &[u8], start: usize);
+
+    /// The word of the stretch from `start` up to and not including `end`.
+    fn word(&mut self, word: &[u8], start: usize, end: usize);
 }
 
 struct Measure(usize);
@@ -15,7 +17,7 @@ impl Sink for Measure {
         self.0 += 1;
     }
 
-    fn word(&mut self, word: &[u8], _start: usize) {
+    fn word(&mut self, word: &[u8], _start: usize, _end: usize) {
         self.0 += word.len();
     }
 }
@@ -33,11 +35,15 @@ impl Sink for Write<'_> {
         self.at += 1;
     }
 
-    fn word(&mut self, word: &[u8], start: usize) {
-        let end = self.at + word.len();
-        self.out[self.at..end].copy_from_slice(word);
-        self.origins[self.at..end].fill(start as u16);
-        self.at = end;
+    /// Of two or more symbols, the last one's origin is the last position of the stretch.
+    fn word(&mut self, word: &[u8], start: usize, end: usize) {
+        let next = self.at + word.len();
+        self.out[self.at..next].copy_from_slice(word);
+        self.origins[self.at..next].fill(start as u16);
+        if word.len() >= 2 {
+            self.origins[next - 1] = (end - 1) as u16;
+        }
+        self.at = next;
     }
 }
 
@@ -71,7 +77,7 @@ fn pass(ready: &Ready, sink: &mut impl Sink) -> usize {
                 None => sink.keep(*symbol, i),
                 Some((stop, rule)) => {
                     let word = &ready.book[ready.outline.words[rule] as usize + 1..];
-                    sink.word(&word[1..1 + word[0] as usize], i);
+                    sink.word(&word[1..1 + word[0] as usize], i, stop);
                     end = stop;
                     taken += 1;
                 }
