@@ -1,6 +1,6 @@
-//! The books that are measured, made record by record.
+//! The books that are measured or compared, made record by record.
 
-use crate::answer::ARCS;
+use crate::answer::{ARCS, WORD};
 use crate::chance::Chance;
 
 const LEFT: u8 = 0;
@@ -25,7 +25,16 @@ impl Draft {
     fn rule(&mut self, word: &[u8]) {
         self.bytes.extend([1, word.len() as u8]);
         self.bytes.extend(word);
-        self.bytes.extend(std::iter::repeat_n(0, 8 - word.len()));
+        self.bytes.extend(std::iter::repeat_n(0, WORD - word.len()));
+    }
+
+    /// A rule without conditions: the focus states before its first symbol and after it, which still need their arcs.
+    fn free_rule(&mut self, word: &[u8]) -> (u8, u8) {
+        self.rule(word);
+        self.any(LEFT);
+        let focus = (self.state(FOCUS, START), self.state(FOCUS, ACCEPT));
+        self.any(RIGHT);
+        focus
     }
 
     /// The number of the new state.
@@ -103,10 +112,7 @@ pub fn turn() -> Vec<u8> {
 pub fn dense(chance: &mut Chance) -> Vec<u8> {
     let mut draft = Draft::default();
     for rule in 0..16u8 {
-        draft.rule(&[rule, LAST - rule]);
-        draft.any(LEFT);
-        let (start, more) = (draft.state(FOCUS, START), draft.state(FOCUS, ACCEPT));
-        draft.any(RIGHT);
+        let (start, more) = draft.free_rule(&[rule, LAST - rule]);
         for _ in 0..16 {
             let (first, next) = (chance.symbol(), chance.below(8) as u8);
             draft.arc(start, first, first, more);
@@ -175,12 +181,23 @@ pub fn largest() -> Vec<u8> {
 pub fn every_stretch() -> Vec<u8> {
     let mut draft = Draft::default();
     for rule in 0..16u8 {
-        draft.rule(&[rule]);
-        draft.any(LEFT);
-        let (start, more) = (draft.state(FOCUS, START), draft.state(FOCUS, ACCEPT));
-        draft.any(RIGHT);
+        let (start, more) = draft.free_rule(&[rule]);
         draft.arc(start, 0, LAST, more);
         draft.arc(more, 0, LAST, more);
+    }
+    draft.end()
+}
+
+/// A rule for each length of a word, 0 to 8, so that every place in a word has an origin to compare; not timed. A focus is one symbol, a
+/// different one in each rule, and then any number of symbols above 8.
+pub fn word_lengths() -> Vec<u8> {
+    const LONGEST: u8 = WORD as u8;
+    let mut draft = Draft::default();
+    for length in 0..=LONGEST {
+        let word: Vec<u8> = (0..length).collect();
+        let (start, more) = draft.free_rule(&word);
+        draft.arc(start, length, length, more);
+        draft.arc(more, LONGEST + 1, LAST, more);
     }
     draft.end()
 }

@@ -44,7 +44,7 @@ fn main() {
     account(&cases, pace, short);
 }
 
-/// All contestants give the same on everything that is timed.
+/// All contestants give the same on everything that is timed, and on words of every length.
 fn agree(cases: &Cases, chance: &mut Chance) {
     for tape in [&cases.pool, &cases.one_stretch, &cases.no_candidate].into_iter().flatten() {
         agree::on_whole(&cases.house, tape);
@@ -56,6 +56,7 @@ fn agree(cases: &Cases, chance: &mut Chance) {
     for tape in &cases.random {
         agree::on_whole(&cases.dense, tape);
         agree::on_whole(&cases.full, tape);
+        agree::on_whole(&cases.lengths, tape);
     }
     agree::on_whole(&cases.largest, &cases.random[0]);
     agree::on_whole(&cases.every, &cases.random[0][..HOSTILE[0]]);
@@ -72,7 +73,7 @@ fn agree_on_heats(cases: &Cases) {
         }
         agree::on_refused(book, tapes);
     }
-    for book in [&cases.largest, &cases.every, &cases.alike] {
+    for book in [&cases.largest, &cases.every, &cases.alike, &cases.lengths] {
         heats::of_pieces(&cases.random[..1], SHORT).iter().for_each(|heat| agree::on_heat(book, heat));
     }
     for tapes in [&cases.one_stretch, &cases.no_candidate] {
