@@ -1,4 +1,5 @@
-//! The books of the hand-worked table beside the house book: document 01, "Tapes worked by hand".
+//! The books worked by hand beside the house book: those of document 01, "Tapes worked by hand", and one of our own for
+//! document 02, No. 4.
 
 use crate::draft::{self, Part, Rule};
 
@@ -48,4 +49,14 @@ pub fn q() -> Vec<u8> {
 pub fn s() -> Vec<u8> {
     let focus = Part::word(&[X, Y]).or(&Part::word(&[Y, Z]));
     draft::book(&[Rule::new(Part::word(&[X]), focus, Part::word(&[Z]), &[])])
+}
+
+/// "Some pools replace a contact by contact and release": rule 0 press, any number of holds and release to press and
+/// release; rule 1 two pushes to 6, 7 and 6.
+pub fn contacts() -> Vec<u8> {
+    let contact = Part::word(&[2, 4]).with_arc(1, 3, 3, 1);
+    draft::book(&[
+        Rule::new(Part::any(), contact, Part::any(), &[2, 4]),
+        Rule::new(Part::any(), Part::word(&[5, 5]), Part::any(), &[6, 7, 6]),
+    ])
 }

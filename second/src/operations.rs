@@ -80,11 +80,13 @@ fn build(call: &Call, lent: &mut Lent, agreement: &Agreement) -> Result<Counts, 
 }
 
 fn rewrite(call: &Call, lent: &mut Lent, agreement: &Agreement) -> Result<Counts, Refusal> {
-    let book = book::read(&call.book, agreement.reading)?;
+    let reading = agreement.reading;
+    let book = book::read(&call.book, reading)?;
     let sides = Sides::of(&book, agreement);
-    admit(call, &sides, lent, agreement.reading)?;
+    admit(call, &sides, lent, reading)?;
     let stretches = agreement.stretches(&book, &call.tape);
-    let Rewritten { length, taken } = rewrite::rewrite(call, &sides, &stretches, lent, agreement.reading)?;
+    let reading = reading.value(reading, Wrong::LanesAloneAtLast, Reading::with(Wrong::AllAtStart));
+    let Rewritten { length, taken } = rewrite::rewrite(call, &sides, &stretches, lent, reading)?;
     Ok([length, taken, 0, 0])
 }
 

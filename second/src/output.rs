@@ -1,4 +1,5 @@
-//! The output and its origins.
+//! The output and its origins: document 01, "Which stretches are replaced", and document 02, No. 4. What wrong readings
+//! make of a replacement's origins is in `wrong_mark`.
 
 use crate::book::Book;
 use crate::candidates::Stretch;
@@ -10,13 +11,26 @@ pub struct Output {
     pub origins: Vec<u16>,
 }
 
+/// One symbol of a replacement.
+pub struct Mark<'a> {
+    pub word: &'a [u8],
+    /// The symbol's place in the word.
+    pub place: usize,
+    /// The stretch that the word replaces.
+    pub stretch: Stretch,
+    /// The tape of the stretch, which only wrong readings look at.
+    pub tape: &'a [u8],
+    /// The output symbols written before this one; likewise.
+    pub written: usize,
+}
+
 /// "The output replaces each taken stretch by its rule's word and keeps the rest."
 pub fn output(book: &Book, tape: &[u8], taken: &[Stretch], reading: Reading) -> Output {
     let mut output = Output { symbols: Vec::new(), origins: Vec::new() };
     let mut position = 0;
     for stretch in taken {
         output.keep(tape, position, stretch.start, reading);
-        output.replace(&book.words[stretch.rule], *stretch, reading);
+        output.replace(tape, *stretch, &book.words[stretch.rule], reading);
         position = position.max(stretch.end);
     }
     output.keep(tape, position, tape.len(), reading);
@@ -33,13 +47,27 @@ impl Output {
         }
     }
 
-    /// "every symbol of a replacement the start of the stretch"
-    fn replace(&mut self, word: &[u8], stretch: Stretch, reading: Reading) {
+    fn replace(&mut self, tape: &[u8], stretch: Stretch, word: &[u8], reading: Reading) {
         for (place, symbol) in word.iter().enumerate() {
-            let origin = reading.value(stretch.start, Wrong::OriginsCountUp, stretch.start + place);
-            let origin = reading.value(origin, Wrong::OriginOfEnd, stretch.end);
+            let mark = Mark { word, place, stretch, tape, written: self.symbols.len() };
+            let origin = mark.wrong_origin(reading).unwrap_or(mark.origin());
             self.symbols.push(*symbol);
             self.origins.push(origin as u16);
         }
+    }
+}
+
+impl Mark<'_> {
+    /// "every symbol of a replacement the start of the stretch". Document 02, No. 4: "When a replacement has two or
+    /// more symbols, the last one's origin is the last position of the stretch; the others keep the start."
+    fn origin(&self) -> usize {
+        match self.word.len() >= 2 && self.is_last() {
+            true => self.stretch.end - 1,
+            false => self.stretch.start,
+        }
+    }
+
+    pub fn is_last(&self) -> bool {
+        self.place + 1 == self.word.len()
     }
 }

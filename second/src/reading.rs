@@ -1,4 +1,4 @@
-//! How document 01, with No. 1 and No. 2 of document 02, is read: truly, or with one wrong reading put in.
+//! How document 01, with No. 1, No. 2 and No. 4 of document 02, is read: truly, or with one wrong reading put in.
 //!
 //! A check that cannot fail is a defect, so every wrong reading below can be put into the reference
 //! (`--wrong NAME`), and the tests show that the fixed-seed run catches each of them.
@@ -114,7 +114,7 @@ wrong_readings! {
     HighestRuleTies, "highest-rule-ties", "Among equal stretches the highest rule is taken.";
     TouchingRefused, "touching-refused", "A taken start is strictly after the end of the stretch before.";
     OriginsCountUp, "origins-count-up", "The origins of a replacement count up from the start.";
-    OriginOfEnd, "origin-of-end", "The origin of a replacement is the end of the stretch.";
+    OriginOfEnd, "origin-of-end", "The origin of every symbol of a replacement is the end of the stretch.";
     OriginInOutput, "origin-in-output", "The origin of a kept symbol is its place in the output.";
     TakenCountsCandidates, "taken-counts-candidates", "REWRITE returns the number of candidates.";
     OriginsUntested, "origins-untested", "15 of REWRITE looks at the output buffer alone.";
@@ -226,6 +226,30 @@ wrong_readings! {
     BadLaneWrites, "bad-lane-writes", "A lane refused with 10 has written its scratch.";
     ShortScratchWrites, "short-scratch-writes", "A lane refused with 12 has written its scratch.";
     LaneRoomKeepsScratch, "lane-room-keeps-scratch", "A lane refused with 15 leaves the scratch unchanged.";
+
+    // The time of a mark of two symbols: document 02, No. 4. First who has the last position.
+    AllAtStart, "all-at-start", "Every symbol of a replacement keeps the start, as document 01 alone has it.";
+    OneAtLast, "one-at-last", "The symbol of a word of one has the last position too.";
+    AllAtLast, "all-at-last", "All symbols of a word of two or more have the last position.";
+    FirstAtLast, "first-at-last", "The first symbol of a longer word has the last position, the others the start.";
+    SecondAtLast, "second-at-last", "The second symbol has the last position, the others the start.";
+    AllButFirstAtLast, "all-but-first-at-last", "Every symbol but the first has the last position.";
+    AllButLastAtLast, "all-but-last-at-last", "Every symbol but the last has the last position.";
+    TwoAtLast, "two-at-last", "The last symbol has the last position in words of exactly two symbols alone.";
+    ThreeAtLast, "three-at-last", "The last symbol has the last position in words of three or more alone.";
+    AsLongAtLast, "as-long-at-last", "Only on a stretch as long as the word the last symbol has the last position.";
+    NoLongerAtLast, "no-longer-at-last", "The last symbol of a word longer than its stretch keeps the start.";
+    SameAtLast, "same-at-last", "The last symbol has the last position only if the tape has the same symbol there.";
+    LanesAtStart, "lanes-at-start", "Every symbol of a replacement keeps the start in the lanes of a heat.";
+    LanesAloneAtLast, "lanes-alone-at-last", "Only in the lanes of a heat the last symbol has the last position.";
+
+    // Then which position that is, and what the others have.
+    LastAtEnd, "last-at-end", "The last symbol's origin is the end of the stretch, one past its last position.";
+    LastBeforeLast, "last-before-last", "The last symbol's origin is one before the last position.";
+    LastByWord, "last-by-word", "The last symbol's origin is counted from the start by the length of the word.";
+    LastInOutput, "last-in-output", "The last symbol's origin is its place in the output.";
+    CountUpToLast, "count-up-to-last", "The origins of a replacement count up and stop at the last position.";
+    CountUpBeforeLast, "count-up-before-last", "The symbols before the last have origins counting up from the start.";
 
     // The program.
     CapitalsRead, "capitals-read", "A to F are hex digits too.";

@@ -17,11 +17,12 @@ use crate::taken::taken;
 use crate::workspace;
 
 /// Those that are wrong readings of the lane's REWRITE.
-const OF_REWRITE: [(Wrong, Wrong); 4] = [
+const OF_REWRITE: [(Wrong, Wrong); 5] = [
     (Wrong::LaneSymbolBeforeLength, Wrong::SymbolBeforeLength),
     (Wrong::LaneRoomKeepsScratch, Wrong::RoomKeepsScratch),
     (Wrong::LaneRoomOfOut, Wrong::OriginsUntested),
     (Wrong::LaneRoomOfOrigins, Wrong::OutUntested),
+    (Wrong::LanesAtStart, Wrong::AllAtStart),
 ];
 
 /// Those by which a reply is given for the whole common buffer.

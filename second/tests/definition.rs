@@ -1,8 +1,10 @@
-//! The reference, and the fast stand-in, against document 01, with No. 1 of document 02, read as literally as can be:
-//! every run followed on its own, from state to state. Slow, so small tapes alone.
+//! The reference, and the fast stand-in, against document 01, with No. 1 and No. 4 of document 02, read as literally as
+//! can be: every run followed on its own, from state to state. Slow, so small tapes alone.
+
+use std::slice;
 
 use second::account::{Line, WORDS_A_LINE};
-use second::answer::Answer;
+use second::answer::{Answer, Lent};
 use second::book::{self, Book, MOST_RULES};
 use second::call::{Call, Lengths, Operation};
 use second::candidates::Stretch;
@@ -10,7 +12,7 @@ use second::chance::Chance;
 use second::generate::alphabet::Alphabet;
 use second::generate::{rules, tapes};
 use second::operations::answer;
-use second::reading::Reading;
+use second::reading::{Reading, Wrong};
 use second::record::{FOCUS, LEFT, RIGHT};
 use second::sets::{left_set, right_set};
 use second::stretches::Stretches;
@@ -72,19 +74,38 @@ fn taken(candidates: &[(usize, usize, usize)]) -> Vec<(usize, usize, usize)> {
     }
 }
 
-/// Output symbols with their origins.
+/// Output symbols with their origins: at each position of the tape those that have it as origin.
 fn output(book: &Book, tape: &[u8], taken: &[(usize, usize, usize)]) -> Vec<(u8, u16)> {
     let mut output = Vec::new();
     for (position, symbol) in tape.iter().enumerate() {
-        if let Some((start, _, rule)) = taken.iter().find(|(start, end, _)| (*start..*end).contains(&position)) {
-            if position == *start {
-                output.extend(book.words[*rule].iter().map(|symbol| (*symbol, *start as u16)));
-            }
-        } else {
-            output.push((*symbol, position as u16));
+        let mut write = |symbols: &[u8]| output.extend(symbols.iter().map(|symbol| (*symbol, position as u16)));
+        let around = taken.iter().find(|(start, end, _)| (*start..*end).contains(&position));
+        let Some((start, end, rule)) = around else {
+            write(&[*symbol]);
+            continue;
+        };
+        let (at_start, at_last) = by_origin(&book.words[*rule]);
+        if position == *start {
+            write(at_start);
+        }
+        if position + 1 == *end {
+            write(at_last);
         }
     }
     output
+}
+
+/// The symbols of a word whose origin is the start of the stretch, and those whose origin is its last position.
+fn by_origin(word: &[u8]) -> (&[u8], &[u8]) {
+    match word {
+        [] | [_] => (word, &[]),
+        [others @ .., last] => (others, slice::from_ref(last)),
+    }
+}
+
+/// Whether a stretch of two or more symbols is replaced by a word of so many or more.
+fn has_mark(book: &Book, taken: &[(usize, usize, usize)], symbols: usize) -> bool {
+    taken.iter().any(|(start, end, rule)| *start + 2 <= *end && book.words[*rule].len() >= symbols)
 }
 
 /// A verdict at a time: its condition, and the start and the rule of the stretch that it names.
@@ -132,12 +153,16 @@ fn literal_right_set(book: &Book, tape: &[u8], i: usize) -> u64 {
 }
 
 fn answered(operation: Operation, book: &[u8], tape: &[u8]) -> Answer {
+    answered_by(operation, book, tape, Reading::TRUE)
+}
+
+fn answered_by(operation: Operation, book: &[u8], tape: &[u8], reading: Reading) -> Answer {
     let mut call = Call::new(operation);
     call.book = book.to_vec();
     call.tape = tape.to_vec();
     call.lengths =
         Lengths { rows: 8192, sets: 512, scratch: LONGEST + 1, out: 64, origins: 64, lines: MOST_LINES * WORDS_A_LINE };
-    answer(&call, Reading::TRUE)
+    answer(&call, reading)
 }
 
 /// The one refusal that a random valid book can meet.
@@ -158,7 +183,7 @@ fn drawn(number: u64) -> (Vec<u8>, Vec<u8>) {
 
 #[test]
 fn candidates_taken_output_and_account() {
-    let (mut with_candidates, mut with_several) = (0, 0);
+    let (mut with_candidates, mut with_several, mut with_marks) = (0, 0, [0; 2]);
     for number in 0..BOOKS {
         let (bytes, tape) = drawn(number);
         let book = book::read(&bytes, Reading::TRUE).expect("a valid book");
@@ -186,8 +211,56 @@ fn candidates_taken_output_and_account() {
         assert_eq!(accounted.lent.lines[..lines.len()], lines, "book {number}");
         with_candidates += u64::from(!candidates.is_empty());
         with_several += u64::from(candidates.len() > taken.len());
+        with_marks[0] += u64::from(has_mark(&book, &taken, 2));
+        with_marks[1] += u64::from(has_mark(&book, &taken, 3));
     }
     assert!(with_candidates > BOOKS / 3 && with_several > BOOKS / 6, "{with_candidates} {with_several}");
+    assert!(with_marks[0] > BOOKS / 6 && with_marks[1] > BOOKS / 10, "{with_marks:?}");
+}
+
+/// Each origin is at least the one before; not so if the first symbol of a mark had the last position.
+#[test]
+fn origins_never_fall() {
+    let mut fallen = 0;
+    for number in 0..BOOKS {
+        let (bytes, tape) = drawn(number);
+        let book = book::read(&bytes, Reading::TRUE).expect("a valid book");
+        let taken = Stretches::plainly(&book, &tape, Reading::TRUE).taken;
+        let fall = |reading: Reading| {
+            let origins = second::output::output(&book, &tape, &taken, reading).origins;
+            origins.windows(2).any(|pair| pair[0] > pair[1])
+        };
+        assert!(!fall(Reading::TRUE), "book {number}");
+        fallen += u64::from(fall(Reading::with(Wrong::FirstAtLast)));
+    }
+    assert!(fallen > BOOKS / 6, "{fallen}");
+}
+
+/// "Outputs, accounts .. stay as they are", and origins too but for marks of two or more symbols on stretches of two or
+/// more.
+#[test]
+fn time_of_a_mark_alone_is_new() {
+    let mut marks = 0;
+    for number in 0..BOOKS {
+        let (bytes, tape) = drawn(number);
+        let both = |operation: Operation| {
+            [Reading::TRUE, Reading::with(Wrong::AllAtStart)]
+                .map(|reading| answered_by(operation, &bytes, &tape, reading))
+        };
+        let [new, old] = both(Operation::Account);
+        assert_eq!(new, old, "book {number}");
+        let [new, old] = both(Operation::Rewrite);
+        if has_too_many_sets(&new) {
+            continue;
+        }
+        let book = book::read(&bytes, Reading::TRUE).expect("a valid book");
+        let is_new = has_mark(&book, &taken(&candidates(&book, &tape)), 2);
+        assert_eq!(new.lent.origins != old.lent.origins, is_new, "book {number}");
+        let lent = Lent { origins: new.lent.origins.clone(), ..old.lent };
+        assert_eq!(new, Answer { lent, ..old }, "book {number}");
+        marks += u64::from(is_new);
+    }
+    assert!(marks > BOOKS / 6 && BOOKS - marks > BOOKS / 6, "{marks}");
 }
 
 /// The literal lines name rules that beat the candidate, and by each verdict but 0 often another one than its own.

@@ -1,5 +1,5 @@
 //! The hand-worked table of document 01, the account of case 8, and the program's example; lines have the sixth word of
-//! document 02, No. 1.
+//! document 02, No. 1. Beside the table stand rows of our own for document 02, No. 4.
 
 use second::account::{Line, WORDS_A_LINE};
 use second::answer::Answer;
@@ -28,14 +28,14 @@ fn digits(tape: &str) -> Vec<u8> {
 }
 
 /// One row of the table: output and origins, and nothing written past them.
-fn works_out(number: usize, book: &[u8], tape: &[u8], output: &[u8], origins: &[u16]) {
+fn works_out(case: &str, book: &[u8], tape: &[u8], output: &[u8], origins: &[u16]) {
     let answer = answered(Operation::Rewrite, book, tape);
-    assert_eq!(answer.reply, 0, "case {number}");
-    assert_eq!(answer.counts[0] as usize, output.len(), "case {number}");
-    assert_eq!(hex::shown(&answer.lent.out[..output.len()]), hex::shown(output), "case {number}");
-    assert_eq!(&answer.lent.origins[..output.len()], origins, "case {number}");
-    assert!(answer.lent.out[output.len()..].iter().all(|symbol| *symbol == 0xee), "case {number}");
-    assert!(answer.lent.origins[output.len()..].iter().all(|origin| *origin == 0xeeee), "case {number}");
+    assert_eq!(answer.reply, 0, "{case}");
+    assert_eq!(answer.counts[0] as usize, output.len(), "{case}");
+    assert_eq!(hex::shown(&answer.lent.out[..output.len()]), hex::shown(output), "{case}");
+    assert_eq!(&answer.lent.origins[..output.len()], origins, "{case}");
+    assert!(answer.lent.out[output.len()..].iter().all(|symbol| *symbol == 0xee), "{case}");
+    assert!(answer.lent.origins[output.len()..].iter().all(|origin| *origin == 0xeeee), "{case}");
 }
 
 #[test]
@@ -51,7 +51,7 @@ fn cases_1_to_11() {
         ("", "", &[]),
     ];
     for (at, (tape, output, origins)) in of_house.into_iter().enumerate() {
-        works_out(at + 1, &house, &digits(tape), &digits(output), origins);
+        works_out(&format!("case {}", at + 1), &house, &digits(tape), &digits(output), origins);
     }
     let of_letters: [(Vec<u8>, &str, &str, &[u16]); 4] = [
         (hand::p(), "aaaaaabaaab", "aAbaAb", &[0, 1, 6, 7, 8, 10]),
@@ -60,13 +60,38 @@ fn cases_1_to_11() {
         (hand::s(), "xyzzxxyzz", "xzxzz", &[0, 3, 4, 7, 8]),
     ];
     for (at, (book, tape, output, origins)) in of_letters.into_iter().enumerate() {
-        works_out(at + 8, &book, &hand::tape(tape), &hand::tape(output), origins);
+        works_out(&format!("case {}", at + 8), &book, &hand::tape(tape), &hand::tape(output), origins);
+    }
+}
+
+/// Taken are 2334, 55 and 24.
+const CONTACTS: &str = "12334055245";
+
+/// Document 02, No. 4: rows of our own.
+#[test]
+fn time_of_a_mark() {
+    let (output, origins) = (digits("1240676245"), [0, 1, 4, 5, 6, 6, 7, 8, 9, 10]);
+    works_out("contacts", &hand::contacts(), &digits(CONTACTS), &output, &origins);
+    // The one rule's focus and word, tape, output, origins.
+    let rows: [(&str, &str, &str, &str, &[u16]); 7] = [
+        ("1111", "", "011110", "00", &[0, 5]),
+        ("1111", "9", "011110", "090", &[0, 1, 5]),
+        ("1111", "98", "011110", "0980", &[0, 1, 4, 5]),
+        ("1111", "987654", "011110", "09876540", &[0, 1, 1, 1, 1, 1, 4, 5]),
+        ("12", "01234567", "12312", "01234567301234567", &[0, 0, 0, 0, 0, 0, 0, 1, 2, 3, 3, 3, 3, 3, 3, 3, 4]),
+        ("1", "9", "010", "090", &[0, 1, 2]),
+        ("1", "98", "0110", "098980", &[0, 1, 1, 2, 2, 3]),
+    ];
+    for (focus, word, tape, output, origins) in rows {
+        let rule = Rule::new(Part::any(), Part::word(&digits(focus)), Part::any(), &digits(word));
+        let case = format!("{focus} to {word}");
+        works_out(&case, &draft::book(&[rule]), &digits(tape), &digits(output), origins);
     }
 }
 
 /// The account has these lines, and nothing is written past them.
-fn accounts_for(book: &[u8], tape: &str, lines: &[Line]) {
-    let answer = answered(Operation::Account, book, &hand::tape(tape));
+fn accounts_for(book: &[u8], tape: &[u8], lines: &[Line]) {
+    let answer = answered(Operation::Account, book, tape);
     assert_eq!((answer.reply, answer.counts), (0, [lines.len() as u64, 0, 0, 0]));
     let (written, past) = answer.lent.lines.split_at(WORDS_A_LINE * lines.len());
     assert_eq!(written, lines.concat());
@@ -86,7 +111,13 @@ fn nine_lines_of_case_8() {
         [1, 5, 7, 3, 1, 0],
         [0, 8, 10, 0, 8, 0],
     ];
-    accounts_for(&hand::p(), "aaaaaabaaab", &lines);
+    accounts_for(&hand::p(), &hand::tape("aaaaaabaaab"), &lines);
+}
+
+/// Document 02, No. 4, leaves accounts "as they are": no last position stands in a line.
+#[test]
+fn three_lines_of_the_contacts() {
+    accounts_for(&hand::contacts(), &digits(CONTACTS), &[[0, 1, 5, 0, 1, 0], [1, 6, 8, 0, 6, 1], [0, 8, 10, 0, 8, 0]]);
 }
 
 /// Rule 0 x, rule 1 y, rules 2 to 4 xyz: rule 2 decides by every verdict, and neither the lowest rule nor the last one
@@ -103,7 +134,7 @@ fn every_verdict_has_its_deciding_rule() {
         [1, 1, 2, 3, 0, 2],
         [1, 3, 4, 0, 3, 1],
     ];
-    accounts_for(&draft::book(&rules), "xyzy", &lines);
+    accounts_for(&draft::book(&rules), &hand::tape("xyzy"), &lines);
 }
 
 #[test]

@@ -1,4 +1,4 @@
-//! HEAT: document 02, No. 2, by hand, and held against BUILD and one REWRITE after another.
+//! HEAT: document 02, No. 2, by hand, and held against BUILD and one REWRITE after another; origins as No. 4 has them.
 
 use second::answer::{Answer, LaneRecord, Lent};
 use second::call::{Call, Lane, Lengths, Operation};
@@ -7,9 +7,9 @@ use second::draft::{self, Part, Rule};
 use second::generate::alphabet::Alphabet;
 use second::generate::calls::call;
 use second::generate::{full, rules, tapes};
-use second::house;
 use second::operations::answer;
 use second::reading::Reading;
+use second::{hand, house};
 
 fn lanes(bounds: &[(u64, u64)]) -> Vec<Lane> {
     bounds.iter().map(|(start, length)| Lane { start: *start, length: *length }).collect()
@@ -87,6 +87,16 @@ fn lanes_overlap_and_stand_in_any_order() {
     let lent = heated(&call).lent;
     assert_eq!(lent.out[..14], [2, 7, 7, 7, 7, 0, 2, 7, 7, 7, 7, 7, 7, 0x5a]);
     assert_eq!(lent.origins[..14], [0, 1, 1, 0, 0, 1, 2, 3, 3, 0, 0, 0, 0, 0x5a5a]);
+}
+
+/// Document 02, No. 4, in each lane: a contact of four symbols, two pushes, a part of that contact, a contact of two.
+#[test]
+fn last_position_is_the_lanes_own() {
+    let call = heat(hand::contacts(), &[1, 2, 3, 3, 4, 0, 5, 5, 2, 4, 5], &[(1, 5), (5, 3), (3, 2), (7, 4)]);
+    lanes_get(&call, &[(3, 1, 0, 0), (4, 1, 0, 0), (2, 0, 0, 0), (4, 1, 0, 0)]);
+    let lent = heated(&call).lent;
+    assert_eq!(lent.out[..14], [2, 4, 0, 0, 6, 7, 6, 3, 4, 5, 2, 4, 5, 0x5a]);
+    assert_eq!(lent.origins[..14], [0, 3, 4, 0, 1, 1, 2, 0, 1, 0, 1, 2, 3, 0x5a5a]);
 }
 
 #[test]

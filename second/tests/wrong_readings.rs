@@ -1,6 +1,8 @@
 //! Every wrong reading, put into the reference alone, is caught by the fixed-seed run: a check that cannot fail is a
-//! defect.
+//! defect. No two of them are the same.
 
+use second::answer::Answer;
+use second::call::Call;
 use second::generate::calls::call;
 use second::generate::lines::inputs;
 use second::operations::answer;
@@ -29,24 +31,41 @@ const OF_PROGRAM: [Wrong; 13] = [
     Wrong::RefusalEndsRun,
 ];
 
+/// Readings that answered every call so far alike; none is the true one, which stands before the others.
+type Alike = Vec<Option<Wrong>>;
+
+/// Some call of the run tells each wrong reading from the true one, and from each other.
 #[test]
 fn each_wrong_reading_of_an_operation_is_caught() {
-    let mut at_large: Vec<Wrong> = Wrong::ALL.iter().copied().filter(|wrong| !OF_PROGRAM.contains(wrong)).collect();
+    let wrong = Wrong::ALL.iter().copied().filter(|wrong| !OF_PROGRAM.contains(wrong));
+    let mut at_large: Vec<Alike> = vec![[None].into_iter().chain(wrong.map(Some)).collect()];
     for number in 0..WHOLE_RUN {
         let call = call(SEED, number);
-        let expected = answer(&call, Reading::TRUE);
-        at_large.retain(|wrong| {
-            let caught = answer(&call, Reading::with(*wrong)) != expected;
-            if caught {
-                println!("{:26} caught at call {number}", wrong.name());
+        let told_apart = at_large.iter().flat_map(|alike| {
+            let told_apart = told_apart(alike, &call);
+            for caught in told_apart[1..].iter().flatten().flatten().filter(|_| alike[0].is_none()) {
+                println!("{:26} caught at call {number}", caught.name());
             }
-            !caught
+            told_apart
         });
+        at_large = told_apart.filter(|alike| alike.len() > 1).collect();
         if at_large.is_empty() {
             return;
         }
     }
-    panic!("never caught: {at_large:?}");
+    panic!("never told apart: {at_large:?}");
+}
+
+fn told_apart(alike: &Alike, call: &Call) -> Vec<Alike> {
+    let mut answers: Vec<(Answer, Alike)> = Vec::new();
+    for wrong in alike {
+        let answer = answer(call, wrong.map_or(Reading::TRUE, Reading::with));
+        match answers.iter_mut().find(|(other, _)| *other == answer) {
+            Some((_, alike)) => alike.push(*wrong),
+            None => answers.push((answer, vec![*wrong])),
+        }
+    }
+    answers.into_iter().map(|(_, alike)| alike).collect()
 }
 
 #[test]
