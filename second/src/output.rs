@@ -61,9 +61,10 @@ impl Mark<'_> {
     /// "every symbol of a replacement the start of the stretch". Document 02, No. 4: "When a replacement has two or
     /// more symbols, the last one's origin is the last position of the stretch; the others keep the start."
     fn origin(&self) -> usize {
-        match self.word.len() >= 2 && self.is_last() {
-            true => self.stretch.end - 1,
-            false => self.stretch.start,
+        if self.word.len() >= 2 && self.is_last() {
+            self.stretch.end - 1
+        } else {
+            self.stretch.start
         }
     }
 

@@ -1,5 +1,5 @@
 //! Every wrong reading, put into the reference alone, is caught by the fixed-seed run: a check that cannot fail is a
-//! defect. No two of them are the same.
+//! defect. No two of an operation are the same.
 
 use second::answer::Answer;
 use second::call::Call;
@@ -31,7 +31,7 @@ const OF_PROGRAM: [Wrong; 13] = [
     Wrong::RefusalEndsRun,
 ];
 
-/// Readings that answered every call so far alike; none is the true one, which stands before the others.
+/// Readings that answered every call so far alike. `None` is the true one, and stands before the others.
 type Alike = Vec<Option<Wrong>>;
 
 /// Some call of the run tells each wrong reading from the true one, and from each other.
