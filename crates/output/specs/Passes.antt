@@ -1,11 +1,11 @@
 -- The forward passes, one position after the other: what one position adds to the counts and does to the outputs, where the last stretch
 -- taken before it ends at `end`.
-use Prim.Native.Nat.{ℕ, _+_, _≤_}
+use Prim.Native.Nat.{ℕ, _+_, _-_, _≤_}
 use mathlib.Core.Path.{_≡_}
 use mathlib.Core.List.{List, map}
 use mathlib.Core.Bool.{cond}
-use lib.Dec.{leb}
-use lib.ListN.{length, set}
+use lib.Dec.{leb, ltb}
+use lib.ListN.{length, set, replicate}
 use Rattle.book.specs.Language.{Rules}
 use Rattle.stretches.specs.Candidates.{taken}
 use Rattle.stretches.specs.Output.{wordMarks, rewriting, symbolsOf, originsOf}
@@ -29,6 +29,16 @@ pub record Sized (b : Rules) (t : List ℕ) (length′ taken′ : ℕ) : Type 0 
 -- the symbols that the output needs where it is longer than the room, else 0
 unfoldable pub neededPast : Rules → List ℕ → ℕ → ℕ
 neededPast b t room = cond (leb (length (rewriting b t)) room) 0 (length (rewriting b t))
+
+-- the symbols of the word w, written at `at`, each with the origin i
+pub record SymbolsPut (w : List ℕ) (i at : ℕ) (out₀ org₀ : List ℕ) (at′ : ℕ) (out org : List ℕ) : Type 0 where
+  pub next : at′ ≡ at + length w
+  pub outs : out ≡ put out₀ at w
+  pub orgs : org ≡ put org₀ at (replicate (length w) i)
+
+-- origins of which those of a word stand from `at` up to `next`: o in the place of the last of two or more
+unfoldable pub lastPut : List ℕ → ℕ → ℕ → ℕ → List ℕ
+lastPut org at next o = cond (ltb 1 (next - at)) (set org (next - 1) o) org
 
 -- the word w of the stretch from i to j, written at `at`
 pub record WordPut (w : List ℕ) (i j at : ℕ) (out₀ org₀ : List ℕ) (at′ : ℕ) (out org : List ℕ) : Type 0 where

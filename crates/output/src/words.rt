@@ -8,8 +8,7 @@ ghost use Rattle.book.specs.Reading.{wordAt, bookOf};
 ghost use Rattle.book.specs.Language.{rulesIn};
 ghost use Rattle.book.specs.Outline.{WordRoom, WordsAt};
 ghost use Rattle.stretches.specs.Buffers.{longestTape};
-ghost use Rattle.stretches.specs.Output.{wordOrigin};
-ghost use Rattle.output.specs.Passes.{mostMarks, WordPut};
+ghost use Rattle.output.specs.Passes.{mostMarks, SymbolsPut, lastPut, WordPut};
 
 // No more symbols than these stand for one position: those of the longest word, or the one that is kept.
 pub(crate) fn longest_word(book: &[u8], words: &[u16; book::RULES], rules: usize) -> usize
@@ -29,24 +28,54 @@ pub(crate) fn longest_word(book: &[u8], words: &[u16; book::RULES], rules: usize
     most
 }
 
-// The origin of symbol k of a word of n, for the stretch from start up to stop: "When a replacement has two or more symbols, the last one's origin
-// is the last position of the stretch; the others keep the start".
-fn word_origin(n: usize, start: usize, stop: usize, k: usize) -> u16
-    requires { ⌜ (k < n) × (start < stop) × (stop ≤ longestTape) ⌝ }
-    ensures { λ r. ⌜ r ≡ wordOrigin n start stop k ⌝ }
+// A position of the tape as an origin.
+fn origin_of(position: usize) -> u16
+    requires { ⌜ position ≤ longestTape ⌝ }
+    ensures { λ r. ⌜ r ≡ position ⌝ }
 {
-    if k + 1 < n {
-        return start as u16;
-    }
-    if n == 1 { // the last one, and no other
-        return start as u16;
-    }
-    let last = stop - 1;
-    last as u16
+    position as u16
 }
 
-// Writes the word in the rule's record at `from`, which stands for the stretch from start up to stop, and its origins, from `at` on; hands back where
-// the next symbol is written.
+// Writes the symbols of the word in the rule's record at `from`, each with the start of its stretch as origin, from `at` on; hands back where the next
+// symbol is written.
+fn put_symbols(
+    book: &[u8],
+    from: usize,
+    start: usize,
+    out: &mut [u8],
+    origins: &mut [u16],
+    at: usize,
+) -> usize
+    requires { ⌜ WordRoom (now book) from ⌝ }
+    requires { ⌜ start ≤ longestTape ⌝ }
+    requires { ⌜ (at + length (wordAt (now book) from) ≤ length (now out)) × (at + length (wordAt (now book) from) ≤ length (now origins)) ⌝ }
+    ensures { λ r. ⌜ SymbolsPut (wordAt (now (book .entry)) from) start at (now (out .entry)) (now (origins .entry)) r (now (out .exit)) (now (origins .exit)) ⌝ }
+{
+    let n = word_length(book, from);
+    let origin = origin_of(start);
+    let mut k = 0;
+    while k < n {
+        out[at + k] = book[from + book::SYMBOLS_AT + k];
+        origins[at + k] = origin;
+        k += 1;
+    }
+    at + n
+}
+
+// Of a word that stands from `at` up to `next`: "When a replacement has two or more symbols, the last one's origin is the last position of the stretch".
+fn put_last(origins: &mut [u16], at: usize, next: usize, last: usize)
+    requires { ⌜ (at ≤ next) × (next ≤ length (now origins)) × (last ≤ longestTape) ⌝ }
+    ensures { λ _. ⌜ now (origins .exit) ≡ lastPut (now (origins .entry)) at next last ⌝ }
+{
+    if next - at <= 1 {
+        return;
+    }
+    origins[next - 1] = origin_of(last);
+}
+
+// Writes the word in the rule's record at `from`, which stands for the stretch from start up to stop, and its origins. The last one's is put in after
+// the others, and not chosen symbol by symbol: with a choice in the loop the function of one position is too large to become part of the passes, and
+// they take more than twice as long.
 pub(crate) fn put_word(
     book: &[u8],
     from: usize,
@@ -61,12 +90,8 @@ pub(crate) fn put_word(
     requires { ⌜ (at + length (wordAt (now book) from) ≤ length (now out)) × (at + length (wordAt (now book) from) ≤ length (now origins)) ⌝ }
     ensures { λ r. ⌜ WordPut (wordAt (now (book .entry)) from) start stop at (now (out .entry)) (now (origins .entry)) r (now (out .exit)) (now (origins .exit)) ⌝ }
 {
-    let n = word_length(book, from);
-    let mut k = 0;
-    while k < n {
-        out[at + k] = book[from + book::SYMBOLS_AT + k];
-        origins[at + k] = word_origin(n, start, stop, k);
-        k += 1;
-    }
-    at + n
+    let last = stop - 1;
+    let next = put_symbols(book, from, start, out, origins, at);
+    put_last(origins, at, next, last);
+    next
 }

@@ -7,7 +7,7 @@ use native.Mathlib.Omega.{arith}
 use mathlib.Core.Path.{_≡_, refl, sym, _∙_, ap}
 use mathlib.Core.List.{List, [], _∷_, _++_, append-assoc, append-nil}
 use lib.ListN.{length, take, drop, set, length-append, length-drop, take-append-drop}
-use lib.Seq.{length-take-le, take-at, drop-at, drop-drop, set-split, append-snoc}
+use lib.Seq.{length-take-le, take-at, drop-at, drop-drop, set-split, set-append-seam, append-snoc}
 use Rattle.stretches.specs.Buffers.{onto}
 use Rattle.stretches.specs.Lists.{put}
 
@@ -77,3 +77,23 @@ put-nil l p = sym (rw (add-zero, append-nil) (take-append-drop p l))
 
 pub put-one : (l : List ℕ) (p x : ℕ) → p < length l → set l p x ≡ put l p (x ∷ [])
 put-one l p x h = rw (set-split l p x h, append-snoc, add-one)
+
+-- the last element of what was written, written anew
+pub put-last : (l : List ℕ) (at : ℕ) (xs : List ℕ) (z a : ℕ) → at ≤ length l → set (put l at (xs ++ (z ∷ []))) (at + length xs) a ≡ put l at (xs ++ (a ∷ []))
+put-last l at xs z a h =
+    ap (λ (r : List ℕ). set r (at + length xs) a) (cut z)
+    ∙ ap (λ (k : ℕ). set ((take at l ++ xs) ++ (z ∷ rest)) k a) (sym seam)
+    ∙ set-append-seam (take at l ++ xs) z rest a
+    ∙ sym (cut a)
+  where
+    rest : List ℕ
+    rest = drop (at + (length xs + 1)) l
+
+    seam : length (take at l ++ xs) ≡ at + length xs
+    seam = length-append (take at l) xs ∙ ap (λ (n : ℕ). n + length xs) (length-take-le at l h)
+
+    cut : (y : ℕ) → put l at (xs ++ (y ∷ [])) ≡ (take at l ++ xs) ++ (y ∷ rest)
+    cut y =
+        ap (λ (n : ℕ). (take at l ++ (xs ++ (y ∷ []))) ++ drop (at + n) l) (length-append xs (y ∷ []))
+        ∙ ap (λ (r : List ℕ). r ++ rest) (sym (append-assoc (take at l) xs (y ∷ [])))
+        ∙ append-assoc (take at l ++ xs) (y ∷ []) rest

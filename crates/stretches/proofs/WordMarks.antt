@@ -37,12 +37,6 @@ module _ (n i j : ℕ) where
   from-symbols k [] = refl
   from-symbols k (x ∷ w) = ap (λ (l : List ℕ). x ∷ l) (from-symbols (suc k) w)
 
-  from-origin : (k : ℕ) (w : List ℕ) (m : ℕ) → m < length w → getD (originsOf (marksFrom n i j k w)) m 0 ≡ wordOrigin n i j (k + m)
-  from-origin k [] m h = absurd (omega arith)
-  from-origin k (x ∷ w) zero h = let e : k ≡ k + 0 = omega arith in ap (wordOrigin n i j) e
-  from-origin k (x ∷ w) (suc m) h =
-      let e : suc k + m ≡ k + suc m = omega arith in from-origin (suc k) w m (omega arith) ∙ ap (wordOrigin n i j) e
-
   -- the origins of all that follow symbol k, and its own, where they end the word
   from-origins : (k x : ℕ) (w : List ℕ) → 1 < n → k + suc (length w) ≡ n
       → originsOf (marksFrom n i j k (x ∷ w)) ≡ replicate (length w) i ++ (lastPosition i j ∷ [])
@@ -56,9 +50,6 @@ marks-length w i j = from-length (length w) i j 0 w
 
 pub marks-symbols : (w : List ℕ) (i j : ℕ) → symbolsOf (wordMarks w i j) ≡ w
 marks-symbols w i j = from-symbols (length w) i j 0 w
-
-pub marks-origin : (w : List ℕ) (i j k : ℕ) → k < length w → getD (originsOf (wordMarks w i j)) k 0 ≡ wordOrigin (length w) i j k
-marks-origin w i j k h = from-origin (length w) i j 0 w k h ∙ ap (wordOrigin (length w) i j) (let e : 0 + k ≡ k = omega arith in e)
 
 pub marks-origins : (w : List ℕ) (i j : ℕ) → originsOf (wordMarks w i j) ≡ wordOrigins (length w) i j
 marks-origins [] i j = refl

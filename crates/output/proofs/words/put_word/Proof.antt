@@ -1,163 +1,35 @@
--- `words::put_word` meets its contract: the symbols so far and their origins stand in front, and the rest is as it was. Assumes nothing.
-use Prim.Native.Nat.{_-_, _<_}
-use mathlib.Core.Path.{_∙_, ap}
+-- `words::put_word` meets its contract: the symbols with the start, then the last one's origin. Assumes nothing.
 use native.Mathlib.Omega.{arith}
 use borrow.Author.Needs.{needs}
-use lib.ListN.{length}
 use Rattle.book.specs.Reading.{wordAt}
-use Rattle.stretches.specs.Output.{wordOrigin}
-use Rattle.book.proofs.Placing.{word-length}
-use Rattle.output.proofs.Marks.{Spelling, spelling-start, spelling-room, spelling-turn, spelling-end, spelling-read}
+use Rattle.output.proofs.Marks.{word-put}
 use Rattle.output.proofs.words.put_word.Statement.{statement}
 use Rattle.output.proofs.words.put_word.Tie as tie
 
-abbrev Inv-loop : tie.InvT-loop
-Inv-loop book from start stop out₀ origins₀ at n k₀ out origins k = Spelling (wordAt book from) start stop out₀ origins₀ out origins at k
+sub-last : tie.Need-sub-last
+sub-last c = search needs
 
-abbrev μ-loop : tie.MeasureT-loop
-μ-loop book from start stop out₀ origins₀ at n k₀ out origins k = n - k
+put-symbols-requires : tie.Need-put-symbols-requires
+put-symbols-requires c κs = search needs
 
-word-length-requires : tie.Need-word-length-requires Inv-loop μ-loop
-word-length-requires c κs =
-    c .before .before .before .pre .0
+put-last-requires : tie.Need-put-last-requires
+put-last-requires c κs = search needs
 
-loop-holds : tie.Need-loop-holds Inv-loop μ-loop
-loop-holds c =
-    let s = c .before .before .before .before in
-    let a = s .args in
-    spelling-start (wordAt (a .book .now) (a .from)) (a .start) (a .stop) (a .out .now) (a .origins .now) (a .at) (s .pre .1 .1)
+same-length : tie.Need-same-length
+same-length c = search needs
 
-add-out : tie.Need-add-out Inv-loop μ-loop
-add-out c =
-    let s = c .before .before .before .before .before .before in
-    omega (arith, s .pre .0 .whole)
+same-length-2 : tie.Need-same-length-2
+same-length-2 c = search needs
 
-add-out-2 : tie.Need-add-out-2 Inv-loop μ-loop
-add-out-2 c =
-    let s = c .before .before .before .before .before .before in
-    let a = s .args in
-    omega (arith, s .pre .0 .whole, s .pre .0 .short, word-length (a .book .now) (a .from) (s .pre .0), c .before .before .word-length .ensures)
-
-shared-slice-read-out : tie.Need-shared-slice-read-out Inv-loop μ-loop
-shared-slice-read-out c =
-    let s = c .before .before .before .before .before .before .before in
-    let a = s .args in
-    omega (arith, s .pre .0 .whole, s .pre .0 .short, word-length (a .book .now) (a .from) (s .pre .0), c .before .before .before .word-length .ensures)
-
-add-out-3 : tie.Need-add-out-3 Inv-loop μ-loop
-add-out-3 c =
-    let inside = c .before in
-    let s = inside .before .before .before .before .before .before in
-    let a = s .args in
-    let l = inside .before .loop in
-    let h : l .k < length (wordAt (a .book .now) (a .from)) = omega (arith, inside .loop-test .taken, inside .before .before .word-length .ensures) in
-    omega (arith, s .pre .1 .1)
-
-slice-write-out : tie.Need-slice-write-out Inv-loop μ-loop
-slice-write-out c =
-    let inside = c .before in
-    let s = inside .before .before .before .before .before .before in
-    let a = s .args in
-    let l = inside .before .loop in
-    let h : l .k < length (wordAt (a .book .now) (a .from)) = omega (arith, inside .loop-test .taken, inside .before .before .word-length .ensures) in
-    spelling-room (wordAt (a .book .now) (a .from)) (a .start) (a .stop) (a .out .now) (a .origins .now) (l .out) (l .origins) (a .at) (l .k) (l .inv) h .0
-
-word-origin-requires : tie.Need-word-origin-requires Inv-loop μ-loop
-word-origin-requires c κs =
-    let inside = c .before in
-    let s = inside .before .before .before .before .before .before in
-    (inside .loop-test .taken, s .pre .1 .0 .0, s .pre .1 .0 .1)
-
-add-origins : tie.Need-add-origins Inv-loop μ-loop
-add-origins c =
-    let inside = c .before .before in
-    let s = inside .before .before .before .before .before .before in
-    let a = s .args in
-    let l = inside .before .loop in
-    let h : l .k < length (wordAt (a .book .now) (a .from)) = omega (arith, inside .loop-test .taken, inside .before .before .word-length .ensures) in
-    omega (arith, s .pre .1 .1)
-
-mul-origins : tie.Need-mul-origins Inv-loop μ-loop
-mul-origins c =
-    let inside = c .before .before in
-    let s = inside .before .before .before .before .before .before in
-    let a = s .args in
-    let l = inside .before .loop in
-    let h : l .k < length (wordAt (a .book .now) (a .from)) = omega (arith, inside .loop-test .taken, inside .before .before .word-length .ensures) in
-    let room =
-    spelling-room (wordAt (a .book .now) (a .from)) (a .start) (a .stop) (a .out .now) (a .origins .now) (l .out) (l .origins) (a .at) (l .k) (l .inv) h in
-    omega (arith, room .1)
-
-slice-write-origins : tie.Need-slice-write-origins Inv-loop μ-loop
-slice-write-origins c =
-    let inside = c .before .before in
-    let s = inside .before .before .before .before .before .before in
-    let a = s .args in
-    let l = inside .before .loop in
-    let h : l .k < length (wordAt (a .book .now) (a .from)) = omega (arith, inside .loop-test .taken, inside .before .before .word-length .ensures) in
-    spelling-room (wordAt (a .book .now) (a .from)) (a .start) (a .stop) (a .out .now) (a .origins .now) (l .out) (l .origins) (a .at) (l .k) (l .inv) h .1
-
-add-k : tie.Need-add-k Inv-loop μ-loop
-add-k c = search needs
-
-loop-less : tie.Need-loop-less Inv-loop μ-loop
-loop-less c = search needs
-
-loop-again : tie.Need-loop-again Inv-loop μ-loop
-loop-again c =
-    let inside = c .before .before in
-    let s = inside .before .before .before .before .before .before in
-    let a = s .args in
-    let l = inside .before .loop in
-    let h : l .k < length (wordAt (a .book .now) (a .from)) = omega (arith, inside .loop-test .taken, inside .before .before .word-length .ensures) in
-    let n = inside .before .before .word-length in
-    spelling-turn (wordAt (a .book .now) (a .from)) (a .start) (a .stop) (a .out .now) (a .origins .now) (l .out) (l .origins) (a .at) (l .k) (l .inv) h _ _
-    (spelling-read (a .book .now) (a .from) (l .k) (n .result) (s .pre .0) (n .ensures) (inside .loop-test .taken))
-    (c .word-origin .ensures ∙ ap (λ m. wordOrigin m (a .start) (a .stop) (l .k)) (n .ensures))
-
-add-result : tie.Need-add-result Inv-loop μ-loop
-add-result c =
-    let s = c .before .before .before .before .before .before in
-    omega (arith, s .pre .1 .1, c .before .before .word-length .ensures)
-
-same-length : tie.Need-same-length Inv-loop μ-loop
-same-length c =
-    c .before .loop .inv .outs .same
-
-same-length-2 : tie.Need-same-length-2 Inv-loop μ-loop
-same-length-2 c =
-    c .before .loop .inv .orgs .same
-
-returns : tie.Need-returns Inv-loop μ-loop
+returns : tie.Need-returns
 returns c =
-    let s = c .before .before .before .before .before .before in
+    let s = c .before .before .before .before .before .before .before .before .before .before .before .before .before .before in
     let a = s .args in
-    let l = c .before .loop in
-    let n = c .before .before .word-length in
-    spelling-end (wordAt (a .book .now) (a .from)) (a .start) (a .stop) (a .out .now) (a .origins .now) (l .out) (l .origins) (a .at) (l .k) (l .inv)
-    (n .result) (n .ensures) (omega arith)
+    let symbols = c .before .before .before .before .before .before .before .before .put-symbols in
+    word-put (wordAt (a .book .now) (a .from)) (a .start) (a .stop) (a .at) (a .out .now) (a .origins .now) (symbols .result) _ _ _
+    (symbols .ensures) (c .before .before .put-last .ensures) (omega arith) (omega (arith, s .pre .1 .0)) (s .pre .1 .1 .1)
 
 pub put-word-spec : {M : Type 1} → statement M
 put-word-spec =
     tie.close
-    (tie.spec
-    Inv-loop
-    μ-loop
-    word-length-requires
-    loop-holds
-    add-out
-    add-out-2
-    shared-slice-read-out
-    add-out-3
-    slice-write-out
-    word-origin-requires
-    add-origins
-    mul-origins
-    slice-write-origins
-    add-k
-    loop-less
-    loop-again
-    add-result
-    same-length
-    same-length-2
-    returns)
+    (tie.spec sub-last put-symbols-requires put-last-requires same-length same-length-2 returns)
