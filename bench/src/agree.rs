@@ -1,6 +1,6 @@
 //! Before anything is timed: the contestants give the same answers and leave the same buffers. A difference ends the run.
 
-use crate::answer::{Heated, Lane, LANES, ROW_BYTES, SYMBOLS, TAPE};
+use crate::answer::{Heated, Lane, LANES, LINE, ROW_BYTES, SYMBOLS, TAPE, WORD};
 use crate::chance::Chance;
 use crate::heats::{lane, Heat};
 use crate::lent::Lent;
@@ -31,7 +31,7 @@ fn on(book: &[u8], tape: &[u8], lines: usize, out: usize) {
 pub fn on_whole(book: &[u8], tape: &[u8]) {
     let mut none = Lent::for_lines(0);
     let needed = proved::account(book, tape, &mut none).place;
-    on(book, tape, needed / 5, 8 * 4096);
+    on(book, tape, needed / LINE, WORD * TAPE);
 }
 
 /// Books with a few bytes changed, so that every reply is met, on short tapes with little room.
