@@ -12,7 +12,7 @@ use Rattle.book.specs.Language.{Rules, upFrom}
 use Rattle.stretches.specs.Candidates.{Stretch, ruleOf, taken}
 use Rattle.stretches.specs.Output.{Mark, keptMarks, wordMarks, ruleWord, written, rewriting, symbolsOf, originsOf}
 use Rattle.stretches.specs.Account.{Line, account}
-use Rattle.stretches.specs.Sentences.{Takes, takenLines, Chain, keptFrom, replace, covered, keptSymbols, writtenWords}
+use Rattle.stretches.specs.Sentences.{takenLines, Chain, keptFrom, replace, covered, keptSymbols, writtenWords}
 use Rattle.stretches.specs.Sentences.{Shuffled, none, left, right, symbolsFrom, originsFrom, Traced, kept, replaced}
 use Rattle.stretches.proofs.Lists.{each-out}
 use Rattle.stretches.proofs.Stretches.{each-walked, taken-walked}

@@ -23,20 +23,21 @@ marks (x ∷ xs) o = record { symbol = x; origin = o } ∷ marks xs o
 abbrev pub keptMarks : List ℕ → ℕ → List Mark
 keptMarks x i = marks x i
 
--- "the last position of the stretch", here from i to j; of an empty one its own
+-- "the last position of the stretch", here from i to j; of an empty one its own position
 abbrev pub lastPosition : ℕ → ℕ → ℕ
 lastPosition i j = max i (j - 1)
 
--- the origin of symbol k, counted from 0, of a replacement of n symbols: "When a replacement has two or more symbols, the last one's origin is the
--- last position of the stretch; the others keep the start"
+-- "When a replacement has two or more symbols, the last one's origin is the last position of the stretch; the others keep the start": of symbol k,
+-- counted from 0, of n symbols for the stretch from i to j
 abbrev pub wordOrigin : ℕ → ℕ → ℕ → ℕ → ℕ
 wordOrigin n i j k = cond (ltb 1 n && eqb (suc k) n) (lastPosition i j) i
 
--- the symbols of a replacement of n from symbol k on, with their origins
+-- the symbols of a replacement, from symbol k of n on, with their origins
 abbrev pub marksFrom : ℕ → ℕ → ℕ → ℕ → List ℕ → List Mark
 marksFrom n i j k [] = []
 marksFrom n i j k (x ∷ xs) = record { symbol = x; origin = wordOrigin n i j k } ∷ marksFrom n i j (suc k) xs
 
+-- all of them: the word w for the stretch from i to j
 abbrev pub wordMarks : List ℕ → ℕ → ℕ → List Mark
 wordMarks w i j = marksFrom (length w) i j 0 w
 
