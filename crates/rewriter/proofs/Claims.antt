@@ -221,7 +221,7 @@ module _ (s t rows sets scratch lines : List ℕ) (k : ℕ) where
   shown-symbols = ShownAfter.symbols-after s t rows sets scratch lines k
 
 -- 7. After REWRITE, whatever was lent: the origins that the answer counts never fall, and each is a position of the tape. That is what a printed time
--- needs.
+-- needs: with a clock that never falls and has a time for each position, a symbol prints no earlier than the one before it.
 module _ (s t rows sets scratch out origins : List ℕ) where
   abbrev after : AfterRewrite
   after = rewriteDef s t rows sets scratch out origins
@@ -231,3 +231,7 @@ module _ (s t rows sets scratch out origins : List ℕ) where
 
   pub times-on-tape : (k : ℕ) → k < after .answer .length → getD (after .origins) k 0 < length t
   times-on-tape = TimesAfter.times-inside s t rows sets scratch out origins
+
+  pub printed-never-fall : (clock : List ℕ) → NeverFalls clock → length t ≤ length clock → (j k : ℕ) → j ≤ k → k < after .answer .length
+      → getD clock (getD (after .origins) j 0) 0 ≤ getD clock (getD (after .origins) k 0) 0
+  printed-never-fall = TimesAfter.times-print s t rows sets scratch out origins

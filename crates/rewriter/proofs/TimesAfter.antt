@@ -1,4 +1,5 @@
--- After REWRITE, whatever was lent and whatever the answer, the origins that it counts never fall, and each is a position of the tape. Assumes nothing.
+-- After REWRITE, whatever was lent and whatever the answer, the origins that it counts never fall, and each is a position of the tape; so with a clock that
+-- never falls neither do the times that are printed. Assumes nothing.
 use Prim.Native.Nat.{ℕ, _≤_, _<_, zero-le}
 use mathlib.Core.List.{List}
 use mathlib.Core.Path.{_≡_, sym, ap, subst, _∙_}
@@ -18,6 +19,7 @@ use Rattle.stretches.proofs.NoEmpty.{no-empty}
 use Rattle.stretches.proofs.Rising.{falls-take, origin-in, rewriting-rises, origin-inside}
 use Rattle.output.proofs.Tapes.{tape-counts}
 use Rattle.rewriter.proofs.MakeReady.{ready}
+use Rattle.rewriter.proofs.Callers.{rewrite-origins, rewrite-fits-origins}
 use Rattle.rewriter.proofs.Standing.{rewrite-front-origins}
 
 module _ (book tape rows sets scratch out origins : List ℕ) where
@@ -59,3 +61,13 @@ module _ (book tape rows sets scratch out origins : List ℕ) where
       let q : getD (after .origins) k 0 ≡ getD all k 0 =
       sym (getD-take many (after .origins) k 0 h) ∙ ap (λ (l : List ℕ). getD l k 0) fronts ∙ getD-take many all k 0 h in
       omega (arith, p, q, m .2)
+
+  pub times-print : (clock : List ℕ) → NeverFalls clock → length tape ≤ length clock → (j k : ℕ) → j ≤ k → k < many
+      → getD clock (getD (after .origins) j 0) 0 ≤ getD clock (getD (after .origins) k 0) 0
+  times-print clock f h j k p q =
+      let room = rewrite-fits-origins book tape rows sets scratch out origins in
+      let same = rewrite-origins book tape rows sets scratch out origins in
+      let r = times-rise j k p (omega (arith, q, room, same, length-take many (after .origins))) in
+      let a = getD-take many (after .origins) j 0 (omega arith) in
+      let b = getD-take many (after .origins) k 0 q in
+      f (getD (after .origins) j 0) (getD (after .origins) k 0) (omega (arith, r, a, b)) (omega (arith, times-inside k q, h))
