@@ -37,9 +37,6 @@ pub record Spelling (w : List ℕ) (i : ℕ) (out₀ org₀ out org : List ℕ) 
   pub orgs : Front org₀ org (at + k) (drop k (replicate (length w) i)) (take at org₀ ++ replicate (length w) i)
 
 module _ (w : List ℕ) (i : ℕ) where
-  count : length (replicate (length w) i) ≡ length w
-  count = length-replicate (length w) i
-
   pub spelling-start : (out org : List ℕ) (at : ℕ) → (at + length w ≤ length out) × (at + length w ≤ length org) → Spelling w i out org out org at 0
   spelling-start out org at h = record {
     within = omega arith;
@@ -60,7 +57,7 @@ module _ (w : List ℕ) (i : ℕ) where
       within = omega arith;
       room = was .room;
       outs = one out₀ out w x h (spelling-room h .0) e (was .outs);
-      orgs = one org₀ org (replicate (length w) i) o (omega (arith, count)) (spelling-room h .1) (f ∙ sym (getD-replicate (length w) k i 0 h)) (was .orgs);
+      orgs = one org₀ org (replicate (length w) i) o (omega (arith, length-replicate (length w) i)) (spelling-room h .1) (f ∙ sym (getD-replicate (length w) k i 0 h)) (was .orgs);
     }
       where
         one : (l₀ l v : List ℕ) (x : ℕ) → k < length v → at + k < length l → x ≡ getD v k 0 → Front l₀ l (at + k) (drop k v) (take at l₀ ++ v)
@@ -75,7 +72,7 @@ module _ (w : List ℕ) (i : ℕ) where
     spelling-end n e h = record {
       next = ap (λ (m : ℕ). at + m) e;
       outs = fin out₀ out w (omega (arith, was .room)) (omega (arith, was .within)) (was .outs);
-      orgs = fin org₀ org (replicate (length w) i) (omega (arith, was .room)) (omega (arith, was .within, count)) (was .orgs);
+      orgs = fin org₀ org (replicate (length w) i) (omega (arith, was .room)) (omega (arith, was .within, length-replicate (length w) i)) (was .orgs);
     }
       where
         fin : (l₀ l v : List ℕ) → at ≤ length l₀ → k ≡ length v → Front l₀ l (at + k) (drop k v) (take at l₀ ++ v) → l ≡ put l₀ at v

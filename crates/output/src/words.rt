@@ -75,7 +75,7 @@ fn put_last(origins: &mut [u16], at: usize, next: usize, last: usize)
 
 // Writes the word in the rule's record at `from`, which stands for the stretch from start up to stop, and its origins. The last one's is put in after
 // the others, and not chosen symbol by symbol: with a choice in the loop the function of one position is too large to become part of the passes, which
-// then take two to three times as long.
+// then take two to three times as long on the house book.
 pub(crate) fn put_word(
     book: &[u8],
     from: usize,

@@ -19,13 +19,13 @@ symbols-append [] ys = refl
 symbols-append (x ∷ xs) ys = ap (λ (l : List ℕ). x .symbol ∷ l) (symbols-append xs ys)
 
 -- "When a replacement has two or more symbols, the last one's origin is the last position of the stretch; the others keep the start"
-pub origin-one : (n i j k : ℕ) → n ≤ 1 → wordOrigin n i j k ≡ i
+origin-one : (n i j k : ℕ) → n ≤ 1 → wordOrigin n i j k ≡ i
 origin-one n i j k h = simp (le-ltb 1 n h)
 
-pub origin-last : (n i j k : ℕ) → 1 < n → suc k ≡ n → wordOrigin n i j k ≡ lastPosition i j
+origin-last : (n i j k : ℕ) → 1 < n → suc k ≡ n → wordOrigin n i j k ≡ lastPosition i j
 origin-last n i j k h e = simp (lt-ltb 1 n h, eq-eqb (suc k) n e)
 
-pub origin-other : (n i j k : ℕ) → suc k < n → wordOrigin n i j k ≡ i
+origin-other : (n i j k : ℕ) → suc k < n → wordOrigin n i j k ≡ i
 origin-other n i j k h = let q : suc k ≡ n → ⊥ = λ e. omega arith in simp (lt-ltb 1 n (omega arith), ne-eqb (suc k) n q)
 
 module _ (n i j : ℕ) where
