@@ -4,6 +4,7 @@
 use Prim.Native.Nat.{ℕ, zero, suc, _<_}
 use mathlib.Core.Path.{_≡_, subst}
 use mathlib.Core.List.{List}
+use mathlib.Core.Logic.{_≢_}
 use lib.ListN.{length}
 use lib.Dec.{eqb}
 use borrow.Author.Tests.{eqb-false}
@@ -14,6 +15,7 @@ use Rattle.book.specs.Language.{stateOf}
 use Rattle.book.specs.Sound.{Sound}
 use Rattle.book.proofs.Passed.{test-passed, passed}
 use Rattle.book.proofs.Accepted.{Next, last, more, next, never, is-accepted, accepted-answer}
+use Rattle.book.proofs.Retired.{never-7}
 use Rattle.book.proofs.Sound.{accepted-sound}
 use Rattle.book.proofs.Walk.{walk-start}
 use Rattle.book.proofs.Placing.{Found, found}
@@ -36,6 +38,10 @@ module _ (s : List ℕ) where
   some-from zero at b B h = absurd (never _ _ _ h)
   some-from (suc n) at b B h = some-next n at b B (next n s at b B h) (λ at′ b′ h′. some-from n at′ b′ B h′)
 
+  -- document 02, No. 5: "7 is no longer given"
+  pub seven-retired : checkDef s .reply ≢ 7
+  seven-retired = never-7 s
+
   module _ (z : checkDef s .reply ≡ 0) where
     -- "Accepted, CHECK returns the counts of rules, states and arcs"
     pub counts : checkDef s ≡ answer (accepted (bookOf s))
@@ -46,7 +52,7 @@ module _ (s : List ℕ) where
     unfolding readBook
     some-rule = some-from (suc (length s)) 0 empty (bookOf s) (is-accepted s z)
 
-    -- limits, words, ranges; both states of an arc given, in one rule and part; no focus state starts and accepts
+    -- limits, words, ranges; both states of an arc given, in one rule and part
     pub sound : Sound (bookOf s)
     sound = accepted-sound s (bookOf s) (is-accepted s z)
 

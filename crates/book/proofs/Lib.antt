@@ -11,6 +11,7 @@ pub mod Agree
 pub mod Progress
 -- Laws of an accepted book: that it is sound, the walk over its records, the outline that is taken of it.
 pub mod Accepted
+pub mod Retired
 pub mod Sound
 pub mod Walk
 pub mod Placing

@@ -37,19 +37,14 @@ state-fits part flags rules states r p e =
     let b = test-passed (leb mostStates states) 2 _ (a .1) in
     let c = test-passed (ltb rightPart part) 4 _ (b .1) in
     let d = test-passed (ltb bothFlags flags) 4 _ (c .1) in
-    let f = test-passed (eqb part focusPart && eqb flags bothFlags) 6 _ (d .1) in
     let z = eqb-false rules 0 (a .0) in (
       leb-false mostStates states (b .0),
       omega (arith, z),
       record {
         part = ltb-false rightPart part (c .0);
         flags = ltb-false bothFlags flags (d .0);
-        focus = λ u v. false≢true (sym (f .0) ∙ both u v);
       },
     )
-  where
-    both : part ≡ focusPart → flags ≡ bothFlags → (eqb part focusPart && eqb flags bothFlags) ≡ true
-    both p q = rw (p, q)
 
 -- each symbol of a word that fits
 symbol-of : (s : List ℕ) (p n m : ℕ) → symbolsFit s p n m ≡ true → (i : ℕ) → i < m → symbolFits n i (byte s (p + i)) ≡ true

@@ -33,9 +33,10 @@ end = 4 ∷ []
 
 abbrev pub rows : List Row
 rows =
-    -- accepted: the house book; the smallest book
+    -- accepted: the house book; the smallest book; a focus state with flags 3, since document 02, No. 5, "7 is no longer given"
     record { book = house; answer = record { reply = 0; place = 0; rules = 3; states = 19; arcs = 12 } } ∷
     record { book = rule ++ end; answer = record { reply = 0; place = 0; rules = 1; states = 0; arcs = 0 } } ∷
+    record { book = rule ++ (state 1 3 ++ end); answer = record { reply = 0; place = 0; rules = 1; states = 1; arcs = 0 } } ∷
     -- 1: no kind byte; inside a body; a cut body comes before 4
     refusal [] 1 0 ∷
     refusal (take 147 house) 1 147 ∷
@@ -66,8 +67,6 @@ rows =
     refusal (rule ++ (state 0 1 ++ (rule ++ arc 0 0 15 0))) 6 23 ∷
     refusal (rule ++ (state 0 1 ++ arc 0 0 15 200)) 6 13 ∷
     refusal (rule ++ (state 0 1 ++ (state 2 1 ++ arc 0 0 15 1))) 6 16 ∷
-    -- 7: a focus state with flags 3
-    refusal (rule ++ state 1 3) 7 10 ∷
     -- 8: a byte after the end record
     refusal (house ++ (0 ∷ [])) 8 148 ∷
     []

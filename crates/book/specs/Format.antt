@@ -129,15 +129,13 @@ ruleReply s at rules =
     (cond (not (symbolsFit s (at + symbolsAt) (byte s (at + lengthAt)) longestWord)) 5
     0))
 
--- a state, after `rules` rules and `states` states: 4, 3, 5, 7
+-- a state, after `rules` rules and `states` states: 4, 3, 5; since document 02, No. 5, "7 is no longer given"
 unfoldable pub stateReply : ℕ → ℕ → ℕ → ℕ → ℕ
 stateReply part flags rules states =
     cond (eqb rules 0) 4
     (cond (leb mostStates states) 3
     (cond (ltb rightPart part) 5
-    (cond (ltb bothFlags flags) 5
-    (cond (eqb part focusPart && eqb flags bothFlags) 7
-    0))))
+    (cond (ltb bothFlags flags) 5 0)))
 
 -- state k stands in the latest rule, whose states are those from `first` up to and not including `states`
 unfoldable pub given : ℕ → ℕ → ℕ → Bool
@@ -172,7 +170,7 @@ kindReply s at g =
     (arcReply (byte s (at + fromAt)) (byte s (at + lowAt)) (byte s (at + highAt)) (byte s (at + toAt)) g)
     (endReply (g .rules))
 
--- "In one record: missing kind 1, then 2, cut body 1, then 4, 3, 5, 6, 7": the reply on the record at `at`
+-- "In one record: missing kind 1, then 2, cut body 1, then 4, 3, 5, 6", and 7 before document 02, No. 5: the reply on the record at `at`
 unfoldable pub recordReply : List ℕ → ℕ → Scan → ℕ
 recordReply s at g =
     cond (leb (length s) at) 1

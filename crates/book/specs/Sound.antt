@@ -3,7 +3,7 @@ use Prim.Native.Nat.{ℕ, _+_, _≤_, _<_}
 use mathlib.Core.Path.{_≡_}
 use mathlib.Core.List.{List, []}
 use lib.ListN.{length, getD}
-use Rattle.book.specs.Format.{symbolCount, mostRules, mostStates, mostArcs, longestWord, focusPart, rightPart, bothFlags}
+use Rattle.book.specs.Format.{symbolCount, mostRules, mostStates, mostArcs, longestWord, rightPart, bothFlags}
 use Rattle.book.specs.Reading.{State, Arc, Book}
 use Rattle.book.specs.Language.{stateOf}
 
@@ -23,7 +23,6 @@ pub record WordFits (w : List ℕ) : Type 0 where
 pub record StateFits (st : State) : Type 0 where
   pub part : st .part ≤ rightPart
   pub flags : st .flags ≤ bothFlags
-  pub focus : st .part ≡ focusPart → st .flags ≡ bothFlags → ⊥
 
 pub record ArcFits (b : Book) (a : Arc) : Type 0 where
   pub order : a .low ≤ a .high

@@ -148,16 +148,9 @@ fn state_reply(part: u8, flags: u8, rules: usize, states: usize) -> u8
         return 3;
     }
     match part {
-        LEFT | RIGHT => {
+        LEFT | FOCUS | RIGHT => {
             match flags {
                 0 | START | ACCEPT | BOTH => 0,
-                4..=255 => 5,
-            }
-        }
-        FOCUS => {
-            match flags {
-                0 | START | ACCEPT => 0,
-                BOTH => 7,
                 4..=255 => 5,
             }
         }

@@ -23,6 +23,8 @@ pub const LEFT: u8 = 4;
 
 pub const RIGHT: u8 = 5;
 
+pub const FULL: u8 = 6;
+
 // The buffers whose elements are compared, but for the sets.
 pub(crate) const ROWS: u8 = 0;
 
@@ -129,6 +131,15 @@ fn mirrored(number: usize) -> u64
     to
 }
 
+// FULL has one set on each side: the left state of each of its sixteen rules, every third from state 0 on, and its other two.
+fn full_set(i: usize) -> u64 {
+    let left: u64 = 0x2492_4924_9249;
+    if i == 0 {
+        return left;
+    }
+    if i == MOST_SETS { 6 * left } else { 0 }
+}
+
 pub(crate) fn set(tables: u8, i: usize) -> u64 {
     if MOST_SETS + MOST_SETS <= i {
         return OLD as u64;
@@ -139,6 +150,7 @@ pub(crate) fn set(tables: u8, i: usize) -> u64 {
         LONG => small_set(i),
         LEFT => left_set(i),
         RIGHT => right_set(i),
+        FULL => full_set(i),
         _ => 0,
     }
 }
@@ -158,6 +170,7 @@ fn scratch(tables: u8, n: usize, i: usize) -> u8 {
     match tables {
         PAIR => { if i == n { 0 } else { symbol(i) } }
         LONG => { if i == n { 0 } else { 1 } }
+        FULL => 0,
         _ => OLD,
     }
 }

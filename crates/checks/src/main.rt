@@ -78,9 +78,19 @@ fn bad_arcs() {
     edit_case(0, 28, 26, 0, 6, 22, b"an arc to another part");
 }
 
-fn bad_focus_and_end() {
-    edit_case(0, 28, 15, 3, 7, 13, b"a focus state with flags 3");
+fn bad_end() {
     edit_case(0, 29, 0, 1, 8, 28, b"a byte after the end");
+}
+
+// "7 is no longer given"
+fn empty_focus() {
+    let mut book = books::PAIR;
+    written::change(&mut book, 15, book::BOTH);
+    check_case(
+        front(&book, books::PAIR_LENGTH),
+        accepted(UNTOUCHED, 1, 4, 1),
+        b"a focus state with flags 3",
+    );
 }
 
 fn most(rules: usize, states: usize, arcs: usize, note: &[u8]) {
@@ -169,7 +179,8 @@ fn main() {
     no_rule();
     bad_fields();
     bad_arcs();
-    bad_focus_and_end();
+    bad_end();
+    empty_focus();
     count_cases();
     left_cases();
     right_cases();

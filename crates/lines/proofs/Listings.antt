@@ -1,37 +1,37 @@
 -- The account of a tape, start after start, where one stretch decides at each position; ACCOUNT's two answers after a build, and what they leave.
 -- Assumes nothing.
-use Prim.Native.Nat.{ℕ, suc, _+_, _*_, _/_, _≤_, _<_}
+use Prim.Native.Nat.{ℕ, suc, _+_, _-_, _*_, _/_, _≤_, _<_}
 use mathlib.Core.Path.{_≡_, refl, sym, ap, _∙_, subst}
 use mathlib.Core.Logic.{by-cases}
+use mathlib.Core.Bool.{Bool, true, false}
 use mathlib.Core.List.{List, [], _∷_, _++_}
 use native.Mathlib.Omega.{arith}
 use native.Mathlib.Numerals.{add-one}
 use native.Mathlib.Nat.{zero-add}
 use native.Mathlib.Decide.{decLt}
 use borrow.Author.Tests.{lt-ltb, le-ltb, le-leb, lt-leb, leb-true}
-use lib.Dec.{leb}
+use lib.Dec.{T, leb}
 use lib.ListN.{length, getD, drop}
-use Rattle.book.specs.Format.{mostRules}
 use Rattle.book.specs.Language.{Rules, rulesIn}
 use Rattle.sets.specs.Tables.{leftEntry}
-use Rattle.stretches.specs.Candidates.{Stretch, candidate, longest, ruleOf}
-use Rattle.stretches.specs.Account.{Line, linesAt, account, lineLength, wordsIn}
+use Rattle.stretches.specs.Candidates.{candidate, longest, ruleOf, keep}
+use Rattle.stretches.specs.Account.{Line, each, lineFor, linesAt, account, lineLength, wordsIn}
+use Rattle.stretches.specs.Sentences.{Candidate}
 use Rattle.stretches.specs.Buffers.{onto}
 use Rattle.lines.specs.Listing.{AfterLines, linesLeave, wordsNeeded, linesDef}
 use Rattle.stretches.specs.Ready.{Ready}
-use Rattle.stretches.specs.Position.{TakenHere}
-use Rattle.lines.specs.Lines.{DecidesBy, decider, decidingAt, startLines, LinesFit, LinesPut}
+use Rattle.stretches.specs.Position.{noRule, lowest, TakenHere}
+use Rattle.lines.specs.Lines.{DecidesBy, decider, decidingAt, lineBy, endLines, startLines, LinesFit, LinesPut}
 use Rattle.lines.specs.declared.writing.Deciding.{Deciding}
 use Rattle.book.proofs.Claims.{sound}
-use Rattle.stretches.proofs.Lists.{by-test}
-use Rattle.stretches.proofs.First.{first-below}
+use Rattle.stretches.proofs.Lists.{by-test, each-same}
+use Rattle.stretches.proofs.First.{first-below, first-some}
 use Rattle.stretches.proofs.Onto.{onto-length}
-use Rattle.stretches.proofs.Walks.{over, over-suc, over-zero, cover-in, cover-new, stands}
+use Rattle.stretches.proofs.Walks.{Some, over, over-suc, over-zero, cover-in, cover-new, stands, symbolAt, Place, inside, begins, alone, place}
 use Rattle.stretches.proofs.Counts.{words-length}
-use Rattle.stretches.proofs.NoEmpty.{no-empty}
 use Rattle.stretches.proofs.Lefts.{LeftNumber, left-start, left-turn}
-use Rattle.stretches.proofs.Along.{from, from-all, from-step, from-last}
-use Rattle.lines.proofs.Written.{Written, written-start, written-room, written-turn, written-end, end-start, end-end}
+use Rattle.stretches.proofs.Along.{from, from-all, from-step, from-past}
+use Rattle.lines.proofs.Written.{Written, written-start, written-room, written-turn, written-end}
 
 -- ---- what decides
 
@@ -42,13 +42,13 @@ module _ (b : Rules) (t : List ℕ) where
   deciding-in i c h = rw (lt-ltb i (c .end) h)
 
   -- or something new may begin
-  deciding-fresh : (i : ℕ) (c : Deciding) → c .end ≤ i → decidingAt b t i c ≡ record { start = i; end = longest b t i; rule = ruleOf b t i (longest b t i) }
+  deciding-fresh : (i : ℕ) (c : Deciding) → c .end ≤ i → decidingAt b t i c ≡ record { start = i; end = longest b t i; rule = lowest b t i (longest b t i) }
   unfolding decidingAt
   deciding-fresh i c h = rw (le-ltb i (c .end) h)
 
   pub deciding-new : (i : ℕ) (c : Deciding) (end rule : ℕ) → c .end ≤ i → TakenHere b t i end rule
       → record { start = i; end = end; rule = rule } ≡ decidingAt b t i c
-  deciding-new i c end rule h k = (λ x. record { start = i; end = k .far x; rule = (k .who ∙ ap (ruleOf b t i) (k .far)) x }) ∙ sym (deciding-fresh i c h)
+  deciding-new i c end rule h k = (λ x. record { start = i; end = k .far x; rule = (k .who ∙ ap (lowest b t i) (k .far)) x }) ∙ sym (deciding-fresh i c h)
 
   pub deciding-start : decidingAt b t 0 (record { start = 0; end = 0; rule = 0 }) ≡ decider b t (over b t 0)
   deciding-start = deciding-fresh 0 (record { start = 0; end = 0; rule = 0 }) (omega arith) ∙ ap (decider b t) (sym (over-zero b t))
@@ -59,10 +59,37 @@ module _ (b : Rules) (t : List ℕ) where
       (λ h. deciding-fresh (suc i) (decider b t (over b t i)) (omega arith)
       ∙ ap (decider b t) (sym (over-suc b t i ∙ cover-new b t (suc i) (over b t i) (omega arith))))
 
+  -- where a candidate starts at i a taken stretch stands over i, and so its rule is the lowest
+  some-rule : (s e : ℕ) → Some b t s e → ruleOf b t s e ≡ lowest b t s e
+  some-rule s e c =
+      let k = c .cand .known in
+      first-some (candidate b t s e) 0 (length (b .words)) 0 noRule (c .rule) (omega arith) (omega arith) (c .cand .holds)
+
+  who-decides : (i j r : ℕ) → Candidate b t i j r → Place b t i
+      → ruleOf b t (over b t i .start) (over b t i .end) ≡ lowest b t (over b t i .start) (over b t i .end)
+  who-decides i j r c (inside s e w h g o) = rw o (some-rule s e (w .some))
+  who-decides i j r c (begins e w o) = rw o (some-rule i e (w .some))
+  who-decides i j r c (alone n o) = absurd (n j (record { rule = r; cand = c }))
+
+  kept-line : (c : Bool) (x y : Line) → (T c → x ≡ y) → keep c x ≡ keep c y
+  kept-line true x y h = ap (λ (z : Line). z ∷ []) (h tt)
+  kept-line false x y h = refl
+
   -- the lines of a start, where what stands over it decides
-  lines-here : (i : ℕ) (x : List ℕ) (s : Stretch) → linesAt b t i x s ≡ startLines b t i (decider b t s)
+  lines-here : (i : ℕ) (x : List ℕ) → i ≤ length t → linesAt b t i x (over b t i) ≡ startLines b t i (decider b t (over b t i))
   unfolding startLines
-  lines-here i x s = refl
+  lines-here i x low =
+      each-same (λ (j : ℕ). each (own j) 0 (length (b .words))) (endLines b t i (decider b t (over b t i))) i (suc (length t) - i)
+      (λ j g h. each-same (own j) (λ (r : ℕ). keep (candidate b t i j r) (lineBy i j r (decider b t (over b t i)))) 0 (length (b .words))
+      (λ r k l. kept-line (candidate b t i j r) (lineFor b t i j r (over b t i)) (lineBy i j r (decider b t (over b t i)))
+      (λ c. same j r (who-decides i j r (record { ordered = g; inside = omega arith; known = omega arith; holds = c }) (place b t i low)))))
+    where
+      own : ℕ → ℕ → List Line
+      own j r = keep (candidate b t i j r) (lineFor b t i j r (over b t i))
+
+      same : (j r : ℕ) → ruleOf b t (over b t i .start) (over b t i .end) ≡ lowest b t (over b t i .start) (over b t i .end)
+          → lineFor b t i j r (over b t i) ≡ lineBy i j r (decider b t (over b t i))
+      same j r e = ap (λ (q : ℕ). lineBy i j r (record { start = over b t i .start; end = over b t i .end; rule = q })) e
 
 -- ---- the whole tape
 
@@ -98,44 +125,37 @@ module _ (book t rows sets scratch l₀ : List ℕ) (ready : Ready book t rows s
       deciding-here =
           let s = over R t i in
           let few = sound book (ready .accepted) .rules in
-          let low = first-below (candidate R t (s .start) (s .end)) 0 (length (R .words)) 0 mostRules (omega (arith, few)) (omega arith) in
+          let low = first-below (candidate R t (s .start) (s .end)) 0 (length (R .words)) noRule (suc noRule) (omega (arith, few)) (omega arith) in
           record {
             start = omega (arith, ap (λ (x : Deciding). x .start) decides, stands R t i .low);
             rule = omega (arith, ap (λ (x : Deciding). x .rule) decides, low);
           }
 
-      module _ (inside : i < length t) where
-        step : lineFrom i ≡ startLines R t i d ++ lineFrom (suc i)
-        step = from-step R t (linesAt R t) i inside
-            ∙ ap (λ (x : List Line). x ++ lineFrom (suc i))
-            (lines-here R t i (getD t i 0 ∷ []) (over R t i) ∙ ap (startLines R t i) (sym decides))
+      step : lineFrom i ≡ startLines R t i d ++ lineFrom (suc i)
+      step = from-step R t (linesAt R t) i (was .within)
+          ∙ ap (λ (x : List Line). x ++ lineFrom (suc i)) (lines-here R t i (symbolAt R t i) (was .within) ∙ ap (startLines R t i) (sym decides))
 
-        pub accounting-room : LinesFit (startLines R t i d) at l
-        accounting-room =
-            written-room (account R t) l₀ 0 l at (lineFrom i) (was .written) (startLines R t i d) (lineFrom (suc i)) step
+      pub accounting-room : LinesFit (startLines R t i d) at l
+      accounting-room =
+          written-room (account R t) l₀ 0 l at (lineFrom i) (was .written) (startLines R t i d) (lineFrom (suc i)) step
 
-        pub accounting-turn : (at′ k′ : ℕ) (l′ : List ℕ) → LinesPut (startLines R t i d) at l at′ l′ → k′ ≡ leftEntry rows k (getD t i 0)
-            → Accounting book t sets l₀ l′ at′ d k′ (i + 1)
-        accounting-turn at′ k′ l′ did g = record {
+      module _ (at′ : ℕ) (l′ : List ℕ) (did : LinesPut (startLines R t i d) at l at′ l′) where
+        turned : Written (account R t) l₀ 0 l′ at′ (lineFrom (suc i))
+        turned = written-turn (account R t) l₀ 0 l at (lineFrom i) (was .written) (startLines R t i d) (lineFrom (suc i)) step at′ l′ did
+
+        pub accounting-turn : i < length t → (k′ : ℕ) → k′ ≡ leftEntry rows k (getD t i 0) → Accounting book t sets l₀ l′ at′ d k′ (i + 1)
+        accounting-turn more k′ g = record {
           within = omega arith;
-          written =
-              rw add-one (written-turn (account R t) l₀ 0 l at (lineFrom i) (was .written)
-              (startLines R t i d) (lineFrom (suc i)) step at′ l′ did);
+          written = rw add-one turned;
           next = rw (add-one, decides) (deciding-turn R t i);
-          left = left-turn book t rows sets scratch ready k i k′ inside (was .left) g;
+          left = left-turn book t rows sets scratch ready k i k′ more (was .left) g;
         }
 
-    pub accounting-end : length t ≤ i → l ≡ onto (wordsIn (account R t)) l₀
-    accounting-end h =
-        let w = was .within in
-        let z : i ≡ length t = omega arith in
-        let s : Stretch = over R t (length t) in
-        let none : lineFrom i ≡ [] =
-        ap lineFrom z ∙ from-last R t (linesAt R t) ∙ lines-here R t (length t) [] s
-        ∙ end-start R t (length t) (decider R t s) (no-empty book (ready .accepted)) (omega arith)
-        ∙ end-end R t (length t) (decider R t s) (length t) (omega arith) in
-        let W : List ℕ = wordsIn (account R t) in
-        written-end (account R t) l₀ 0 l at (lineFrom i) (was .written) none .lines ∙ ap (λ (n : ℕ). W ++ drop n l₀) (zero-add (length W))
+        pub accounting-end : length t ≤ i → l′ ≡ onto (wordsIn (account R t)) l₀
+        accounting-end h =
+            let W : List ℕ = wordsIn (account R t) in
+            written-end (account R t) l₀ 0 l′ at′ (lineFrom (suc i)) turned (from-past R t (linesAt R t) i h) .lines
+            ∙ ap (λ (n : ℕ). W ++ drop n l₀) (zero-add (length W))
 
 -- ---- the two answers
 

@@ -24,7 +24,6 @@ use Rattle.stretches.specs.Position.{hits}
 use Rattle.lines.specs.Lines.{hitCount, endCount, startCount}
 use Rattle.stretches.proofs.Lists.{miss}
 use Rattle.stretches.proofs.Counts.{sum-same, sum-none, sum-most, account-length}
-use Rattle.stretches.proofs.NoEmpty.{NoEmpty, no-empty, past-start}
 use Rattle.stretches.proofs.Lefts.{LeftNumber, left-start, left-turn}
 use Rattle.stretches.proofs.Pruned.{Pruned, pruned-start, pruned-turn, pruned-hits, pruned-dead}
 
@@ -93,59 +92,58 @@ module _ (b : Rules) (t : List ℕ) where
   end-none : (i j : ℕ) → ((r : ℕ) → r < length (b .words) → T (candidate b t i j r) → ⊥) → endCount b t i j ≡ 0
   end-none i j h = sum-none (λ (r : ℕ). cond (candidate b t i j r) 1 0) 0 (length (b .words)) (λ r k g. miss (candidate b t i j r) 1 0 (h r (omega arith)))
 
-  module _ (none : NoEmpty b) where
-    -- no candidate is empty
-    own-end : (i : ℕ) → i ≤ length t → endCount b t i i ≡ 0
-    own-end i h = end-none i i (λ r k c. let z = past-start b t none i i r (record { ordered = omega arith; inside = h; known = k; holds = c }) in omega arith)
+  pub start-begin : (i : ℕ) → i ≤ length t → Tally (endCount b t i) (suc (length t)) (startCount b t i) i 0
+  unfolding startCount
+  start-begin i h = record { within = omega arith; count = omega arith }
 
-    pub start-begin : (i : ℕ) → i ≤ length t → Tally (endCount b t i) (suc (length t)) (startCount b t i) (suc i) 0
-    unfolding startCount
-    start-begin i h =
-        let z : suc (length t) - i ≡ suc (suc (length t) - suc i) = omega arith in
-        let g = own-end i h in
-        record { within = omega arith; count = omega (arith, g, ap (sum (endCount b t i) i) z) }
-
-    pub last-start : startCount b t (length t) ≡ 0
-    unfolding startCount
-    last-start =
-        let z : suc (length t) - length t ≡ 1 = omega arith in
-        let g = own-end (length t) (omega arith) in
-        omega (arith, g, ap (sum (endCount b t (length t)) (length t)) z)
-
-pub record Counting (b : Book) (t : List ℕ) (i j set n : ℕ) : Type 0 where
-  pub walk : Pruned b t i j set
-  pub tally : Tally (endCount (rules b) t i) (suc (length t)) (startCount (rules b) t i) (suc j) n
+-- n counts the ends below j; the set and the right set are those at j
+pub record Counting (book t sets scratch : List ℕ) (i j set right n : ℕ) : Type 0 where
+  pub walk : Pruned (bookOf book) t i j set
+  pub here : right ≡ rightSet sets (getD scratch j 0)
+  pub tally : Tally (endCount (rulesIn book) t i) (suc (length t)) (startCount (rulesIn book) t i) j n
 
 module _ (book t sets scratch : List ℕ) (seen : RightSets book t sets scratch) (i : ℕ) where
+  abbrev ends : ℕ → ℕ
+  ends = endCount (rulesIn book) t i
+
+  abbrev all : ℕ
+  all = startCount (rulesIn book) t i
+
   pub counting-start : (L R F : ℕ) → i ≤ length t → L ≡ leftAt (bookOf book) t i → R ≡ rightSet sets (getD scratch i 0) → F ≡ focusFirst (bookOf book) L R
-      → Counting (bookOf book) t i i F 0
+      → Counting book t sets scratch i i F R 0
   counting-start L R F k e f g = record {
     walk = pruned-start book t sets scratch seen i L R F k e f g;
-    tally = start-begin (rulesIn book) t (no-empty book (seen .accepted)) i k;
+    here = f;
+    tally = start-begin (rulesIn book) t i k;
   }
 
-  module _ (j set n : ℕ) (was : Counting (bookOf book) t i j set n) where
-    module _ (inside : j < length t) (R X x : ℕ) (e : R ≡ rightSet sets (getD scratch (j + 1) 0)) (f : X ≡ focusNext (bookOf book) set (getD t j 0) R)
-        (g : x ≡ hitCount (bookOf book) X R) where
-      hits-are : x ≡ endCount (rulesIn book) t i (suc j)
+  module _ (j set right n : ℕ) (was : Counting book t sets scratch i j set right n) where
+    module _ (x : ℕ) (g : x ≡ hitCount (bookOf book) set right) where
+      hits-are : x ≡ ends j
       unfolding hitCount
-      hits-are = g ∙ sum-same (passes (bookOf book) X R) (λ (r : ℕ). cond (candidate (rulesIn book) t i (suc j) r) 1 0)
-          (λ r. ap (λ (c : Bool). cond c 1 0) (pruned-hits book t sets scratch seen i j set (was .walk) inside R X e f r)) 0 (length (bookOf book .words))
+      hits-are = g ∙ sum-same (passes (bookOf book) set right) (λ (r : ℕ). cond (candidate (rulesIn book) t i j r) 1 0)
+          (λ r. ap (λ (c : Bool). cond c 1 0) (pruned-hits book t sets scratch seen i j set (was .walk) right (was .here) r)) 0 (length (bookOf book .words))
 
-      pub counting-turn : Counting (bookOf book) t i (j + 1) X (n + x)
-      counting-turn = record {
+      turned : Tally ends (suc (length t)) all (suc j) (n + x)
+      turned = let h = was .walk .high in tally-turn ends (suc (length t)) all j n (was .tally) (omega arith) x hits-are
+
+      pub counting-low : n + x ≤ all
+      counting-low = tally-low ends (suc (length t)) all (suc j) (n + x) turned
+
+      pub counting-turn : j < length t → (R X : ℕ) → R ≡ rightSet sets (getD scratch (j + 1) 0) → X ≡ focusNext (bookOf book) set (getD t j 0) R
+          → Counting book t sets scratch i (j + 1) X R (n + x)
+      counting-turn inside R X e f = record {
         walk = pruned-turn book t sets scratch seen i j set (was .walk) inside R X e f;
-        tally =
-            rw add-one (tally-turn (endCount (rulesIn book) t i) (suc (length t)) (startCount (rulesIn book) t i) (suc j) n (was .tally)
-            (omega arith) x hits-are);
+        here = e;
+        tally = rw add-one turned;
       }
 
-    pub counting-dead : set ≡ 0 → n ≡ startCount (rulesIn book) t i
-    counting-dead z = tally-rest (endCount (rulesIn book) t i) (suc (length t)) (startCount (rulesIn book) t i) (suc j) n (was .tally)
-        (λ k h g. end-none (rulesIn book) t i k (λ r l. pruned-dead book t sets scratch seen i j set (was .walk) z r k (omega arith)))
+      pub counting-end : length t ≤ j → n + x ≡ all
+      counting-end h = tally-end ends (suc (length t)) all (suc j) (n + x) turned (omega arith)
 
-    pub counting-end : length t ≤ j → n ≡ startCount (rulesIn book) t i
-    counting-end h = tally-end (endCount (rulesIn book) t i) (suc (length t)) (startCount (rulesIn book) t i) (suc j) n (was .tally) (omega arith)
+    pub counting-dead : set ≡ 0 → n ≡ all
+    counting-dead z = tally-rest ends (suc (length t)) all j n (was .tally)
+        (λ k h g. end-none (rulesIn book) t i k (λ r l. pruned-dead book t sets scratch seen i j set (was .walk) z r k h))
 
 -- ---- the whole tape
 
@@ -165,25 +163,25 @@ module _ (book t rows sets scratch : List ℕ) (ready : Ready book t rows sets s
         left = left-start book t rows sets scratch ready;
       }
 
-  module _ (n k i : ℕ) (was : Totalled book t sets n k i) where
-    pub total-low : (x : ℕ) → i < length t → x ≡ startCount (rulesIn book) t i → n + x ≤ length (account (rulesIn book) t)
-    total-low x h e =
-        let f = startCount (rulesIn book) t in let m = suc (length t) in let whole = length (account (rulesIn book) t) in
-        tally-low f m whole (suc i) (n + x) (tally-turn f m whole i n (was .tally) (omega arith) x e)
+  module _ (n k i : ℕ) (was : Totalled book t sets n k i) (x : ℕ) (e : x ≡ startCount (rulesIn book) t i) where
+    abbrev all-lines : ℕ
+    all-lines = length (account (rulesIn book) t)
 
-    pub total-turn : (x k′ : ℕ) → i < length t → x ≡ startCount (rulesIn book) t i → k′ ≡ leftEntry rows k (getD t i 0)
-        → Totalled book t sets (n + x) k′ (i + 1)
-    total-turn x k′ h e g = record {
+    totalled : Tally (startCount (rulesIn book) t) (suc (length t)) all-lines (suc i) (n + x)
+    totalled = let w = was .within in tally-turn (startCount (rulesIn book) t) (suc (length t)) all-lines i n (was .tally) (omega arith) x e
+
+    pub total-low : n + x ≤ all-lines
+    total-low = tally-low (startCount (rulesIn book) t) (suc (length t)) all-lines (suc i) (n + x) totalled
+
+    pub total-turn : (k′ : ℕ) → i < length t → k′ ≡ leftEntry rows k (getD t i 0) → Totalled book t sets (n + x) k′ (i + 1)
+    total-turn k′ h g = record {
       within = omega arith;
-      tally = rw add-one (tally-turn (startCount (rulesIn book) t) (suc (length t)) (length (account (rulesIn book) t)) i n (was .tally) (omega arith) x e);
+      tally = rw add-one totalled;
       left = left-turn book t rows sets scratch ready k i k′ h (was .left) g;
     }
 
-    pub total-end : length t ≤ i → n ≡ length (account (rulesIn book) t)
-    total-end h =
-        let w = was .within in
-        tally-rest (startCount (rulesIn book) t) (suc (length t)) (length (account (rulesIn book) t)) i n (was .tally)
-        (λ j a c. let z : j ≡ length t = omega arith in ap (startCount (rulesIn book) t) z ∙ last-start (rulesIn book) t (no-empty book (ready .accepted)))
+    pub total-end : length t ≤ i → n + x ≡ all-lines
+    total-end h = tally-end (startCount (rulesIn book) t) (suc (length t)) all-lines (suc i) (n + x) totalled (omega arith)
 
 -- ---- no count wraps
 

@@ -21,7 +21,6 @@ use Rattle.stretches.specs.Position.{hits}
 use Rattle.lines.specs.Lines.{lineBy, DecidesBy, hitLines, endLines, startLines, LinesFit, LinesPut}
 use Rattle.lines.specs.declared.writing.Deciding.{Deciding}
 use Rattle.stretches.proofs.Lists.{each-none, each-same, keep-not}
-use Rattle.stretches.proofs.NoEmpty.{NoEmpty, no-empty, past-start}
 use Rattle.stretches.proofs.Front.{Front, front-begin, front-place, front-put, front-finish, put-nil}
 use Rattle.stretches.proofs.Pruned.{Pruned, pruned-start, pruned-turn, pruned-hits, pruned-dead}
 
@@ -178,32 +177,28 @@ module _ (b : Rules) (t : List ℕ) (i : ℕ) (d : Deciding) where
       each-none (λ (r : ℕ). keep (candidate b t i j r) (lineBy i j r d)) 0 (length (b .words))
       (λ r k g. keep-not (candidate b t i j r) (lineBy i j r d) (h r (omega arith)))
 
-  -- the lines of the ends past j
-  abbrev pub pastEnd : ℕ → List Line
-  pastEnd j = each (endLines b t i d) (suc j) (length t - j)
+  -- the lines of the ends from j on
+  abbrev pub fromEnd : ℕ → List Line
+  fromEnd j = each (endLines b t i d) j (suc (length t) - j)
 
-  module _ (none : NoEmpty b) where
-    own-end : i ≤ length t → endLines b t i d i ≡ []
-    own-end h = end-none i (λ r k c. let z = past-start b t none i i r (record { ordered = omega arith; inside = h; known = k; holds = c }) in omega arith)
+  end-start : startLines b t i d ≡ fromEnd i
+  unfolding startLines
+  end-start = refl
 
-    pub end-start : i ≤ length t → startLines b t i d ≡ pastEnd i
-    unfolding startLines
-    end-start h =
-        let z : suc (length t) - i ≡ suc (length t - i) = omega arith in
-        ap (each (endLines b t i d) i) z ∙ ap (λ (x : List Line). x ++ pastEnd i) (own-end h)
+  end-turn : (j : ℕ) → j ≤ length t → fromEnd j ≡ endLines b t i d j ++ fromEnd (suc j)
+  end-turn j h = let z : suc (length t) - j ≡ suc (suc (length t) - suc j) = omega arith in ap (each (endLines b t i d) j) z
 
-  pub end-turn : (j : ℕ) → j < length t → pastEnd j ≡ endLines b t i d (suc j) ++ pastEnd (suc j)
-  end-turn j h = let z : length t - j ≡ suc (length t - suc j) = omega arith in ap (each (endLines b t i d) (suc j)) z
+  end-past : (j : ℕ) → length t ≤ j → fromEnd (suc j) ≡ []
+  end-past j h = let z : suc (length t) - suc j ≡ 0 = omega arith in ap (each (endLines b t i d) (suc j)) z
 
-  pub end-end : (j : ℕ) → length t ≤ j → pastEnd j ≡ []
-  end-end j h = let z : length t - j ≡ 0 = omega arith in ap (each (endLines b t i d) (suc j)) z
+  end-rest : (j : ℕ) → ((r k : ℕ) → j ≤ k → T (candidate b t i k r) → ⊥) → fromEnd j ≡ []
+  end-rest j h = each-none (endLines b t i d) j (suc (length t) - j) (λ k g f. end-none k (λ r x. h r k (omega arith)))
 
-  pub end-rest : (j : ℕ) → ((r k : ℕ) → j ≤ k → T (candidate b t i k r) → ⊥) → pastEnd j ≡ []
-  end-rest j h = each-none (endLines b t i d) (suc j) (length t - j) (λ k g f. end-none k (λ r x. h r k (omega arith)))
-
-pub record Listed (book t : List ℕ) (i : ℕ) (d : Deciding) (l₀ l : List ℕ) (at p j set : ℕ) : Type 0 where
+-- the lines of the ends below j are written; the set and the right set are those at j
+pub record Listed (book t sets scratch : List ℕ) (i : ℕ) (d : Deciding) (l₀ l : List ℕ) (at p j set right : ℕ) : Type 0 where
   pub walk : Pruned (bookOf book) t i j set
-  pub written : Written (startLines (rulesIn book) t i d) l₀ at l p (pastEnd (rulesIn book) t i d j)
+  pub here : right ≡ rightSet sets (getD scratch j 0)
+  pub written : Written (startLines (rulesIn book) t i d) l₀ at l p (fromEnd (rulesIn book) t i d j)
 
 module _ (book t sets scratch : List ℕ) (seen : RightSets book t sets scratch) (i : ℕ) (d : Deciding) where
   abbrev b : Book
@@ -213,47 +208,48 @@ module _ (book t sets scratch : List ℕ) (seen : RightSets book t sets scratch)
   whole = startLines (rulesIn book) t i d
 
   abbrev rest : ℕ → List Line
-  rest = pastEnd (rulesIn book) t i d
+  rest = fromEnd (rulesIn book) t i d
 
   pub listed-start : (L R F : ℕ) (l : List ℕ) (at : ℕ) → i ≤ length t → L ≡ leftAt b t i → R ≡ rightSet sets (getD scratch i 0)
-      → F ≡ focusFirst b L R → LinesFit whole at l → Listed book t i d l l at at i F
+      → F ≡ focusFirst b L R → LinesFit whole at l → Listed book t sets scratch i d l l at at i F R
   listed-start L R F l at k e f g h = record {
     walk = pruned-start book t sets scratch seen i L R F k e f g;
-    written =
-        subst (Written whole l at l at) (end-start (rulesIn book) t i d (no-empty book (seen .accepted)) k) (written-start whole l at h);
+    here = f;
+    written = subst (Written whole l at l at) (end-start (rulesIn book) t i d) (written-start whole l at h);
   }
 
-  module _ (l₀ l : List ℕ) (at p j set : ℕ) (was : Listed book t i d l₀ l at p j set) where
-    module _ (inside : j < length t) (R X : ℕ) (e : R ≡ rightSet sets (getD scratch (j + 1) 0)) (f : X ≡ focusNext b set (getD t j 0) R) where
-      abbrev here : List Line
-      here = hitLines b X R i (j + 1) d
+  module _ (l₀ l : List ℕ) (at p j set right : ℕ) (was : Listed book t sets scratch i d l₀ l at p j set right) where
+    abbrev here : List Line
+    here = hitLines b set right i j d
 
-      lines-are : here ≡ endLines (rulesIn book) t i d (suc j)
-      unfolding hitLines
-      lines-are =
-          rw add-one (each-same (λ (r : ℕ). keep (hits b X R r) (lineBy i (suc j) r d))
-          (λ (r : ℕ). keep (candidate (rulesIn book) t i (suc j) r) (lineBy i (suc j) r d)) 0 (length (b .words))
-          (λ r h k. ap (λ (c : Bool). keep c (lineBy i (suc j) r d)) (pruned-hits book t sets scratch seen i j set (was .walk) inside R X e f r)))
+    lines-are : here ≡ endLines (rulesIn book) t i d j
+    unfolding hitLines
+    lines-are =
+        each-same (λ (r : ℕ). keep (hits b set right r) (lineBy i j r d)) (λ (r : ℕ). keep (candidate (rulesIn book) t i j r) (lineBy i j r d))
+        0 (length (b .words))
+        (λ r h k. ap (λ (c : Bool). keep c (lineBy i j r d)) (pruned-hits book t sets scratch seen i j set (was .walk) right (was .here) r))
 
-      step : rest j ≡ here ++ rest (suc j)
-      step = end-turn (rulesIn book) t i d j inside ∙ ap (λ (x : List Line). x ++ rest (suc j)) (sym lines-are)
+    step : rest j ≡ here ++ rest (suc j)
+    step = end-turn (rulesIn book) t i d j (was .walk .high) ∙ ap (λ (x : List Line). x ++ rest (suc j)) (sym lines-are)
 
-      pub listed-room : LinesFit here p l
-      listed-room =
-          written-room whole l₀ at l p (rest j) (was .written) here (rest (suc j)) step
+    pub listed-room : LinesFit here p l
+    listed-room = written-room whole l₀ at l p (rest j) (was .written) here (rest (suc j)) step
 
-      pub listed-turn : (p′ : ℕ) (l′ : List ℕ) → LinesPut here p l p′ l′ → Listed book t i d l₀ l′ at p′ (j + 1) X
-      listed-turn p′ l′ did = record {
+    module _ (p′ : ℕ) (l′ : List ℕ) (did : LinesPut here p l p′ l′) where
+      turned : Written whole l₀ at l′ p′ (rest (suc j))
+      turned = written-turn whole l₀ at l p (rest j) (was .written) here (rest (suc j)) step p′ l′ did
+
+      pub listed-turn : j < length t → (R X : ℕ) → R ≡ rightSet sets (getD scratch (j + 1) 0) → X ≡ focusNext b set (getD t j 0) R
+          → Listed book t sets scratch i d l₀ l′ at p′ (j + 1) X R
+      listed-turn inside R X e f = record {
         walk = pruned-turn book t sets scratch seen i j set (was .walk) inside R X e f;
-        written =
-            rw add-one (written-turn whole l₀ at l p (rest j) (was .written) here (rest (suc j)) step p′ l′ did);
+        here = e;
+        written = rw add-one turned;
       }
 
-    done : rest j ≡ [] → LinesPut whole at l₀ p l
-    done = written-end whole l₀ at l p (rest j) (was .written)
+      pub listed-end : length t ≤ j → LinesPut whole at l₀ p′ l′
+      listed-end h = written-end whole l₀ at l′ p′ (rest (suc j)) turned (end-past (rulesIn book) t i d j h)
 
     pub listed-dead : set ≡ 0 → LinesPut whole at l₀ p l
-    listed-dead z = done (end-rest (rulesIn book) t i d j (pruned-dead book t sets scratch seen i j set (was .walk) z))
-
-    pub listed-end : length t ≤ j → LinesPut whole at l₀ p l
-    listed-end h = done (end-end (rulesIn book) t i d j h)
+    listed-dead z =
+        written-end whole l₀ at l p (rest j) (was .written) (end-rest (rulesIn book) t i d j (pruned-dead book t sets scratch seen i j set (was .walk) z))

@@ -1,17 +1,16 @@
 -- The account as it is counted and written: one rule, one end and one start after the other.
-use Prim.Native.Nat.{ℕ, suc, _+_, _-_, _≤_, _<_}
+use Prim.Native.Nat.{ℕ, suc, _+_, _-_, _≤_}
 use mathlib.Core.Path.{_≡_}
 use mathlib.Core.List.{List}
 use mathlib.Core.Bool.{cond}
 use lib.Dec.{ltb}
 use lib.ListN.{length}
-use Rattle.book.specs.Format.{mostRules}
 use Rattle.book.specs.Reading.{Book}
 use Rattle.book.specs.Language.{Rules}
-use Rattle.stretches.specs.Candidates.{Stretch, candidate, longest, ruleOf, keep}
+use Rattle.stretches.specs.Candidates.{Stretch, candidate, longest, keep}
 use Rattle.stretches.specs.Account.{Line, judge, verdictBy, each, wordsIn}
 use Rattle.stretches.specs.Sentences.{sum}
-use Rattle.stretches.specs.Position.{hits}
+use Rattle.stretches.specs.Position.{hits, noRule, lowest}
 use Rattle.stretches.specs.Lists.{put}
 use Rattle.lines.specs.declared.writing.Deciding.{Deciding}
 
@@ -27,13 +26,13 @@ endCount b t i j = sum (λ (r : ℕ). cond (candidate b t i j r) 1 0) 0 (length 
 unfoldable pub startCount : Rules → List ℕ → ℕ → ℕ
 startCount b t i = sum (endCount b t i) i (suc (length t) - i)
 
--- a stretch with its rule
+-- a stretch with its rule, the number that is no rule's where it is not taken
 abbrev pub decider : Rules → List ℕ → Stretch → Deciding
-decider b t d = record { start = d .start; end = d .end; rule = ruleOf b t (d .start) (d .end) }
+decider b t d = record { start = d .start; end = d .end; rule = lowest b t (d .start) (d .end) }
 
 -- what decides at i, where c decides at the position before
 unfoldable pub decidingAt : Rules → List ℕ → ℕ → Deciding → Deciding
-decidingAt b t i c = cond (ltb i (c .end)) c (record { start = i; end = longest b t i; rule = ruleOf b t i (longest b t i) })
+decidingAt b t i c = cond (ltb i (c .end)) c (record { start = i; end = longest b t i; rule = lowest b t i (longest b t i) })
 
 -- the line of the candidate from i to j of the rule r, where d decides
 abbrev pub lineBy : ℕ → ℕ → ℕ → Deciding → Line
@@ -42,7 +41,7 @@ lineBy i j r d = judge i j r (verdictBy i j r (d .start) (d .end) (d .rule)) (d 
 -- what decides at a position up to n: its numbers stand in the words of a line where n is the longest tape's length
 pub record DecidesBy (n : ℕ) (d : Deciding) : Type 0 where
   pub start : d .start ≤ n
-  pub rule : d .rule < mostRules
+  pub rule : d .rule ≤ noRule
 
 -- the lines of one end
 unfoldable pub hitLines : Book → ℕ → ℕ → ℕ → ℕ → Deciding → List Line

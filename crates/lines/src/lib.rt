@@ -65,7 +65,7 @@ fn hit_count(book: &[u8], masks: &[u64; MASKS], rules: usize, set: u64, right: u
     n
 }
 
-// How many candidates start at a position.
+// How many candidates start at a position: the ends from it on, the position itself first.
 fn start_count(
     book: &[u8],
     places: &[u16; book::STATES],
@@ -82,19 +82,22 @@ fn start_count(
     requires { ⌜ (from ≤ length (now tape)) × (length (now tape) ≤ longestTape) × (left ≡ leftAt (bookOf (now book)) (now tape) from) ⌝ }
     ensures { λ n. ⌜ n ≡ startCount (rulesIn (now (book .entry))) (now (tape .entry)) from ⌝ }
 {
-    let mut set = first_set(book, masks, rules, left, right_set(sets, scratch, from));
+    let mut right = right_set(sets, scratch, from);
+    let mut set = first_set(book, masks, rules, left, right);
     let mut n = 0;
     let mut j = from;
-    while j < tape.len() {
+    loop {
         if set == 0 {
             return n;
         }
-        let right = right_set(sets, scratch, j + 1);
+        n += hit_count(book, masks, rules, set, right);
+        if j == tape.len() {
+            return n;
+        }
+        right = right_set(sets, scratch, j + 1);
         set = sets::stepping::focus_next(book, places, set, tape[j], right);
         j += 1;
-        n += hit_count(book, masks, rules, set, right);
     }
-    n
 }
 
 // How many candidates the tape has.
@@ -115,12 +118,14 @@ fn count(
     let mut n = 0;
     let mut k = 0;
     let mut i = 0;
-    while i < tape.len() {
+    loop {
         n += start_count(book, places, masks, rules, tape, sets, scratch, i, sets[k]);
+        if i == tape.len() {
+            return n;
+        }
         k = left_entry(rows, k, tape[i]);
         i += 1;
     }
-    n
 }
 
 // The account of one tape after a build and its backward pass: counts, then writes. Refused with 15 and nothing written where the account is too

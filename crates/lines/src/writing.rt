@@ -31,13 +31,13 @@ ghost use Rattle.stretches.specs.Ready.{Tests, Outlined, Ready, RightSets, Reme
 ghost use Rattle.stretches.specs.Position.{hits};
 ghost use Rattle.lines.specs.Lines.{decidingAt, lineBy, DecidesBy, hitLines, startLines, LinesFit, LinesPut};
 
-// The stretch that decides at a position: the taken one that stands over it, or the empty one at it.
+// The stretch that decides at a position: the taken one that starts there or covers it, or the empty one at it where nothing is taken.
 pub struct Deciding {
     // Where it starts, at most the position: the fifth word of a line.
     pub start: usize,
     // Where it ends: the next position that it does not cover decides anew, and a candidate that ends before it is shorter.
     pub end: usize,
-    // Its rule's number, 0 where nothing is taken: of candidates of the same stretch that of the lowest rule is taken. The sixth word of a line.
+    // Its rule's number, that of no rule where nothing is taken: of candidates of the same stretch that of the lowest rule is taken. The sixth word of a line.
     pub rule: usize,
 }
 
@@ -138,7 +138,7 @@ fn put_rules(
     p
 }
 
-// The lines of one start.
+// The lines of one start: the ends from it on, the start itself first.
 fn lines_at(
     book: &[u8],
     places: &[u16; book::STATES],
@@ -160,19 +160,22 @@ fn lines_at(
     requires { ⌜ LinesFit (startLines (rulesIn (now book)) (now tape) from d) at (now lines) ⌝ }
     ensures { λ p. ⌜ LinesPut (startLines (rulesIn (now (book .entry))) (now (tape .entry)) from d) at (now (lines .entry)) p (now (lines .exit)) ⌝ }
 {
-    let mut set = first_set(book, masks, rules, left, right_set(sets, scratch, from));
+    let mut right = right_set(sets, scratch, from);
+    let mut set = first_set(book, masks, rules, left, right);
     let mut p = at;
     let mut j = from;
-    while j < tape.len() {
+    loop {
         if set == 0 {
             return p;
         }
-        let right = right_set(sets, scratch, j + 1);
+        p = put_rules(book, masks, rules, set, right, from, j, d, lines, p);
+        if j == tape.len() {
+            return p;
+        }
+        right = right_set(sets, scratch, j + 1);
         set = sets::stepping::focus_next(book, places, set, tape[j], right);
         j += 1;
-        p = put_rules(book, masks, rules, set, right, from, j, d, lines, p);
     }
-    p
 }
 
 // What decides at position i, where d decides at the one before.
@@ -247,7 +250,7 @@ pub(crate) fn write_lines(
     let mut at = 0;
     let mut k = 0;
     let mut i = 0;
-    while i < tape.len() {
+    loop {
         let left = sets[k];
         d = deciding_at(
             book,
@@ -277,6 +280,9 @@ pub(crate) fn write_lines(
             lines,
             at,
         );
+        if i == tape.len() {
+            return;
+        }
         k = left_entry(rows, k, tape[i]);
         i += 1;
     }

@@ -2,24 +2,19 @@
 use Prim.Native.Nat.{ℕ, suc, _+_, _*_, _≤_, _<_}
 use native.Mathlib.Omega.{arith}
 use native.Mathlib.Numerals.{add-one}
-use mathlib.Core.Path.{_≡_, ap, _∙_}
+use mathlib.Core.Path.{_≡_, ap}
 use mathlib.Core.List.{List}
 use lib.ListN.{length, getD, length-append}
 use Rattle.book.specs.Format.{symbolCount, longestWord}
-use Rattle.book.specs.Language.{Rules, rulesIn}
+use Rattle.book.specs.Language.{rulesIn}
 use Rattle.stretches.specs.Output.{Mark, writtenAt, rewriting}
 use Rattle.stretches.specs.Buffers.{longestTape}
 use Rattle.stretches.specs.Ready.{Ready}
-use Rattle.stretches.specs.Position.{marksAt}
-use Rattle.output.specs.Passes.{Shared}
-use Rattle.stretches.proofs.NoEmpty.{no-empty}
+use Rattle.stretches.specs.Position.{wordHere, marksAt, endNext}
+use Rattle.output.specs.Passes.{mostOutput}
 use Rattle.stretches.proofs.Lefts.{LeftNumber, left-start, left-turn}
 use Rattle.output.proofs.Limits.{output-fits}
 use Rattle.stretches.proofs.Along.{from, At, at-start, at-turn, marks-step, marks-all, marks-last}
-
--- what a position adds to nothing it adds to any length
-pub shared-on : (b : Rules) (t : List ℕ) (i end m end′ : ℕ) → Shared b t i 0 end m end′ → (n : ℕ) → Shared b t i n end (n + m) end′
-shared-on b t i end m end′ did n = record { ends = did .ends; next = omega (arith, did .next) }
 
 -- what is still to be written from i on
 abbrev pub coming : List ℕ → List ℕ → ℕ → List Mark
@@ -41,27 +36,29 @@ module _ (book t rows sets scratch : List ℕ) (ready : Ready book t rows sets s
   }
 
   module _ (n end k i : ℕ) (was : Counted book t sets n end k i) where
-    module _ (inside : i < length t) (n′ end′ : ℕ) (did : Shared (rulesIn book) t i n end n′ end′) where
+    module _ (inside : i < length t) (n′ end′ : ℕ) (next : n′ ≡ n + length (marksAt (rulesIn book) t i end))
+        (ends : end′ ≡ endNext (rulesIn book) t i end) where
       counted-now : n′ + length (coming book t (suc i)) ≡ length (rewriting (rulesIn book) t)
       counted-now =
-          let p = ap length (marks-step (rulesIn book) t i end inside (was .here)) ∙ length-append (marksAt (rulesIn book) t i end) (coming book t (suc i)) in
-          omega (arith, p, did .next, was .lens)
+          let p = ap length (marks-step (rulesIn book) t i end (omega arith) (was .here)) in
+          omega (arith, p, length-append (marksAt (rulesIn book) t i end) (coming book t (suc i)), next, was .lens)
 
       -- the length is not too great
-      pub counted-fits : n′ ≤ longestTape * longestWord
+      pub counted-fits : n′ ≤ mostOutput longestTape longestWord
       counted-fits = omega (arith, counted-now, output-fits book t rows sets scratch ready)
 
       pub counted-turn : (k′ : ℕ) → k′ ≡ getD rows (symbolCount * k + getD t i 0) 0 → Counted book t sets n′ end′ k′ (i + 1)
       counted-turn k′ g = record {
         within = omega arith;
         lens = rw add-one counted-now;
-        here = rw (add-one, did .ends) (at-turn (rulesIn book) t i end (was .here));
+        here = rw (add-one, ends) (at-turn (rulesIn book) t i end (was .here));
         left = left-turn book t rows sets scratch ready k i k′ inside (was .left) g;
       }
 
-    pub counted-end : length t ≤ i → n ≡ length (rewriting (rulesIn book) t)
-    counted-end h =
-        let w = was .within in
-        let e : i ≡ length t = omega arith in
-        let p = ap (λ (x : ℕ). length (coming book t x)) e ∙ ap length (marks-last (rulesIn book) t (no-empty book (ready .accepted))) in
-        omega (arith, p, was .lens)
+    -- at the tape's end
+    module _ (past : length t ≤ i) where
+      pub counted-last : i ≡ length t
+      counted-last = let w = was .within in omega arith
+
+      pub counted-end : (m : ℕ) → m ≡ length (wordHere (rulesIn book) t i) → n + m ≡ length (rewriting (rulesIn book) t)
+      counted-end m e = omega (arith, ap length (marks-last (rulesIn book) t i end counted-last (was .here)), e, was .lens)

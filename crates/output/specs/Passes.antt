@@ -1,6 +1,5 @@
--- The forward passes, one position after the other: what one position adds to the counts and does to the outputs, where the last stretch
--- taken before it ends at `end`.
-use Prim.Native.Nat.{ℕ, _+_, _-_, _≤_}
+-- The forward passes: how much a tape can give, and what is written into both outputs.
+use Prim.Native.Nat.{ℕ, _+_, _-_, _*_, max, _≤_}
 use mathlib.Core.Path.{_≡_}
 use mathlib.Core.List.{List, map}
 use mathlib.Core.Bool.{cond}
@@ -8,18 +7,20 @@ use lib.Dec.{leb, ltb}
 use lib.ListN.{length, set, replicate}
 use Rattle.book.specs.Language.{Rules}
 use Rattle.stretches.specs.Candidates.{taken}
-use Rattle.stretches.specs.Output.{wordMarks, rewriting, symbolsOf, originsOf}
-use Rattle.stretches.specs.Position.{marksAt, takesAt, endNext}
+use Rattle.stretches.specs.Output.{Mark, wordMarks, rewriting, symbolsOf, originsOf}
 use Rattle.stretches.specs.Lists.{put, greatest}
 
--- the output's length after i, from that before it, and where the last stretch ends
-pub record Shared (b : Rules) (t : List ℕ) (i at end at′ end′ : ℕ) : Type 0 where
-  pub ends : end′ ≡ endNext b t i end
-  pub next : at′ ≡ at + length (marksAt b t i end)
+-- how many symbols the longest word has
+unfoldable pub longestIn : Rules → ℕ
+longestIn b = greatest 0 (map length (b .words))
 
--- no more symbols than these stand for one position: those of the longest word, or the one that is kept
-unfoldable pub mostMarks : Rules → ℕ
-mostMarks b = greatest 1 (map length (b .words))
+-- no output of n symbols is longer, where no word has more than `word`: at each position, the tape's end among them, a word, and each symbol
+abbrev pub mostOutput : ℕ → ℕ → ℕ
+mostOutput n word = n * (word + 1) + word
+
+-- where no focus is empty: for each symbol a word, or itself
+abbrev pub mostReplaced : ℕ → ℕ → ℕ
+mostReplaced n word = n * max 1 word
 
 -- the two counts of the whole tape
 pub record Sized (b : Rules) (t : List ℕ) (length′ taken′ : ℕ) : Type 0 where
@@ -54,14 +55,13 @@ pub record KeptPut (x i at taken : ℕ) (out₀ org₀ : List ℕ) (at′ end′
   pub outs : out ≡ set out₀ at x
   pub orgs : org ≡ set org₀ at i
 
--- what is written at i fits both buffers from `at` on
-pub record MarksFit (b : Rules) (t : List ℕ) (i at end : ℕ) (out org : List ℕ) : Type 0 where
-  pub outs : at + length (marksAt b t i end) ≤ length out
-  pub orgs : at + length (marksAt b t i end) ≤ length org
+-- marks fit both buffers from `at` on
+pub record MarksFit (ms : List Mark) (at : ℕ) (out org : List ℕ) : Type 0 where
+  pub outs : at + length ms ≤ length out
+  pub orgs : at + length ms ≤ length org
 
--- what i does to both, and to the length and the number of stretches taken
-pub record MarksPut (b : Rules) (t : List ℕ) (i at end taken : ℕ) (out₀ org₀ : List ℕ) (at′ end′ taken′ : ℕ) (out org : List ℕ) : Type 0 where
-  pub share : Shared b t i at end at′ end′
-  pub many : taken′ ≡ taken + length (takesAt b t i end)
-  pub outs : out ≡ put out₀ at (symbolsOf (marksAt b t i end))
-  pub orgs : org ≡ put org₀ at (originsOf (marksAt b t i end))
+-- they are written there
+pub record MarksPut (ms : List Mark) (at : ℕ) (out₀ org₀ : List ℕ) (at′ : ℕ) (out org : List ℕ) : Type 0 where
+  pub next : at′ ≡ at + length ms
+  pub outs : out ≡ put out₀ at (symbolsOf ms)
+  pub orgs : org ≡ put org₀ at (originsOf ms)

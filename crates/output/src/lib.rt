@@ -1,6 +1,7 @@
 // REWRITE's forward passes over one tape.
 use crate::passes::forward;
 use crate::passes::measure;
+use crate::words::longest_output;
 use crate::words::longest_word;
 use book::outline::MASKS;
 use book::outline::place_rules;
@@ -23,7 +24,7 @@ pub struct Rewritten {
     pub place: usize,
     // How many symbols, and origins, stand at the front of both outputs: at most the length of each; 0 on a refusal.
     pub length: usize,
-    // How many stretches were taken, at most one a symbol of the tape; 0 on a refusal.
+    // How many stretches were taken, at most one a position of the tape, its end among them; 0 on a refusal.
     pub taken: usize,
 }
 
@@ -66,7 +67,8 @@ fn needed(
     requires { ⌜ Ready (now book) (now tape) (now rows) (now sets) (now scratch) ⌝ }
     ensures { λ r. ⌜ r ≡ neededPast (rulesIn (now (book .entry))) (now (tape .entry)) room ⌝ }
 {
-    if tape.len() * longest_word(book, words, rules) <= room {
+    let word = longest_word(book, words, rules);
+    if longest_output(masks, tape.len(), word) <= room {
         return 0;
     }
     let length = measure(book, places, masks, words, rules, tape, rows, sets, scratch);

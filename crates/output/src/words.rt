@@ -1,22 +1,29 @@
 // The words of the rules, read from their records in the book: how long one can be, and its writing with its origins.
+use book::outline::ALL_ACCEPTS;
+use book::outline::ALL_STARTS;
+use book::outline::MASKS;
 use book::outline::word_length;
 ghost use mathlib.Core.Path.{_≡_};
-ghost use Prim.Native.Nat.{_+_, _≤_, _<_};
-ghost use lib.ListN.{length};
-ghost use Rattle.book.specs.Format.{mostRules};
+ghost use mathlib.Core.Bool.{cond};
+ghost use Prim.Native.Nat.{_+_, _≤_};
+ghost use lib.Bits.{bitAnd};
+ghost use lib.Dec.{eqb};
+ghost use lib.ListN.{length, getD};
+ghost use Rattle.book.specs.Format.{mostRules, longestWord};
 ghost use Rattle.book.specs.Reading.{wordAt, bookOf};
 ghost use Rattle.book.specs.Language.{rulesIn};
-ghost use Rattle.book.specs.Outline.{WordRoom, WordsAt};
+ghost use Rattle.book.specs.Outline.{WordRoom, WordsAt, allStarts, allAccepts};
 ghost use Rattle.stretches.specs.Buffers.{longestTape};
-ghost use Rattle.output.specs.Passes.{mostMarks, SymbolsPut, lastPut, WordPut};
+ghost use Rattle.stretches.specs.Output.{lastPosition};
+ghost use Rattle.output.specs.Passes.{longestIn, mostOutput, mostReplaced, SymbolsPut, lastPut, WordPut};
 
-// No more symbols than these stand for one position: those of the longest word, or the one that is kept.
+// How many symbols the longest word has.
 pub(crate) fn longest_word(book: &[u8], words: &[u16; book::RULES], rules: usize) -> usize
     requires { ⌜ (rules ≡ length (bookOf (now book) .words)) × (rules ≤ mostRules) ⌝ }
     requires { ⌜ WordsAt (now book) (bookOf (now book) .words) (now words) ⌝ }
-    ensures { λ r. ⌜ r ≡ mostMarks (rulesIn (now (book .entry))) ⌝ }
+    ensures { λ r. ⌜ r ≡ longestIn (rulesIn (now (book .entry))) ⌝ }
 {
-    let mut most = 1;
+    let mut most = 0;
     let mut r = 0;
     while r < rules {
         let n = word_length(book, words[r] as usize);
@@ -26,6 +33,22 @@ pub(crate) fn longest_word(book: &[u8], words: &[u16; book::RULES], rules: usize
         }
     }
     most
+}
+
+// No output of n symbols is longer than this: at each position, the tape's end among them, a longest word, and each symbol kept. Where no focus state both
+// starts and accepts nothing is put in, and each symbol gives a longest word or itself.
+pub(crate) fn longest_output(masks: &[u64; MASKS], n: usize, word: usize) -> usize
+    requires { ⌜ (n ≤ longestTape) × (word ≤ longestWord) ⌝ }
+    ensures { λ r. ⌜ r ≡ cond (eqb (bitAnd (getD (now (masks .entry)) allStarts 0) (getD (now (masks .entry)) allAccepts 0)) 0)
+        (mostReplaced n word) (mostOutput n word) ⌝ }
+{
+    if masks[ALL_STARTS] & masks[ALL_ACCEPTS] != 0 {
+        return n * (word + 1) + word;
+    }
+    if word == 0 {
+        return n;
+    }
+    n * word
 }
 
 // A position of the tape as an origin.
@@ -62,6 +85,17 @@ fn put_symbols(
     at + n
 }
 
+// "the last position of the stretch"; of an empty one its own position: "Every origin of an inserted word is its position".
+fn last_position(start: usize, stop: usize) -> usize
+    requires { ⌜ (start ≤ stop) × (stop ≤ longestTape) ⌝ }
+    ensures { λ r. ⌜ r ≡ lastPosition start stop ⌝ }
+{
+    if start == stop {
+        return start;
+    }
+    stop - 1
+}
+
 // Of a word that stands from `at` up to `next`: "When a replacement has two or more symbols, the last one's origin is the last position of the stretch".
 fn put_last(origins: &mut [u16], at: usize, next: usize, last: usize)
     requires { ⌜ (at ≤ next) × (next ≤ length (now origins)) × (last ≤ longestTape) ⌝ }
@@ -86,11 +120,11 @@ pub(crate) fn put_word(
     at: usize,
 ) -> usize
     requires { ⌜ WordRoom (now book) from ⌝ }
-    requires { ⌜ (start < stop) × (stop ≤ longestTape) ⌝ }
+    requires { ⌜ (start ≤ stop) × (stop ≤ longestTape) ⌝ }
     requires { ⌜ (at + length (wordAt (now book) from) ≤ length (now out)) × (at + length (wordAt (now book) from) ≤ length (now origins)) ⌝ }
     ensures { λ r. ⌜ WordPut (wordAt (now (book .entry)) from) start stop at (now (out .entry)) (now (origins .entry)) r (now (out .exit)) (now (origins .exit)) ⌝ }
 {
-    let last = stop - 1;
+    let last = last_position(start, stop);
     let next = put_symbols(book, from, start, out, origins, at);
     put_last(origins, at, next, last);
     next

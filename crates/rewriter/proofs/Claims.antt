@@ -4,25 +4,29 @@ use Prim.Native.Nat.{ℕ, _+_, _*_, _≤_, _<_}
 use mathlib.Core.List.{List, [], _∷_, map, List·Memᴰ}
 use mathlib.Core.Path.{_≡_}
 use mathlib.Core.Logic.{_↔_, _⊎_}
+use mathlib.Core.Bool.{false}
 use lib.ListN.{length, take, getD}
 use lib.Seq.{slice}
+use Rattle.book.specs.Format.{longestWord}
 use Rattle.book.specs.Reading.{Book, checkDef}
 use Rattle.book.specs.Language.{Rules, rules, rulesIn}
 use Rattle.stretches.specs.Candidates.{ruleOf, taken}
-use Rattle.stretches.specs.Output.{Mark, rewriting, symbolsOf, originsOf}
+use Rattle.stretches.specs.Output.{Mark, marks, ruleWord, written, rewriting, symbolsOf, originsOf}
 use Rattle.stretches.specs.Account.{Line, account, lineLength, wordsIn}
 use Rattle.stretches.specs.Buffers.{onto}
 use Rattle.rewriter.specs.Show.{between, boundsOf, showDef}
 use Rattle.rewriter.specs.Replies.{AfterRewrite, rewriteDef, accountDef}
 use Rattle.stretches.specs.Paper.{Context, start, end, RC, BookRC, C, Earliest, Over, Overlap, CLM, CLML, RewriteLML}
-use Rattle.stretches.specs.Sentences.{Candidate, Taken, Takes, TakesBy, Sorted, SameCandidate, lineNumber, candidateCount}
+use Rattle.stretches.specs.Sentences.{Candidate, Taken, Takes, TakesBy, Rising, Sorted, SameCandidate, lineNumber, candidateCount}
 use Rattle.stretches.specs.Sentences.{Judged, Decides, takenLines, lineOf}
-use Rattle.stretches.specs.Sentences.{Chain, replace, removed, writes, keptSymbols, writtenWords, Shuffled}
+use Rattle.stretches.specs.Sentences.{Chain, replace, removed, writes, covered, keptSymbols, writtenWords, Shuffled}
 use Rattle.stretches.specs.Sentences.{symbolsFrom, originsFrom, Traced, NeverFalls}
 use Rattle.stretches.specs.Before.{replaceAtStarts, ShortWords}
 use Rattle.stretches.specs.Books.{bookP}
 use Rattle.stretches.specs.Table.{rewritten, rows, tape8, table}
 use Rattle.stretches.specs.Times.{timed, both-times}
+use Rattle.stretches.specs.Insertions.{worked, insertions, inserted}
+use Rattle.output.specs.Passes.{mostOutput}
 use Rattle.stretches.proofs.Greedy as Greedy
 use Rattle.stretches.proofs.Walks as Walks
 use Rattle.stretches.proofs.Stretches as Stretches
@@ -35,9 +39,10 @@ use Rattle.stretches.proofs.Kept as Kept
 use Rattle.stretches.proofs.Origins as Origins
 use Rattle.stretches.proofs.Rising as Rising
 use Rattle.stretches.proofs.Before as Before
+use Rattle.stretches.proofs.WordMarks as WordMarks
 use Rattle.stretches.proofs.Counts as Counts
 use Rattle.stretches.proofs.Batches as Batches
-use Rattle.stretches.proofs.NoEmpty as NoEmpty
+use Rattle.output.proofs.Limits as Limits
 use Rattle.rewriter.proofs.Showing as Showing
 use Rattle.rewriter.proofs.ShownAfter as ShownAfter
 use Rattle.rewriter.proofs.TimesAfter as TimesAfter
@@ -49,6 +54,10 @@ proved-table = table
 -- A row beside it, with words of two and of three symbols (document 02, No. 4).
 pub timed-row : rewritten timed ≡ timed
 timed-row = both-times
+
+-- Marks put in without removing anything (document 02, No. 5): outputs, origins and accounts.
+pub proved-insertions : map worked insertions ≡ insertions
+proved-insertions = inserted
 
 -- 1. Source document 001.
 
@@ -101,6 +110,10 @@ module _ (b : Rules) (t : List ℕ) where
   pub sentence-is-lml : (i j r : ℕ) → Taken b t i j r ↔ ((c : Context) × CLML b t c × Earliest b t c r × (start c ≡ i) × (end c ≡ j))
   sentence-is-lml = Stretches.sentence-paper b t
 
+  -- document 02, No. 5: "no start is taken twice"
+  pub starts-rise : Rising 0 (taken b t)
+  starts-rise = Stretches.taken-rising b t
+
   -- 3. Document 01, the output: "replaces each taken stretch by its rule's word and keeps the rest".
   pub output-replaces : rewriting b t ≡ replace b t 0 (map (lineOf b t) (taken b t))
   output-replaces = Replaced.rewriting-replace b t
@@ -127,6 +140,18 @@ module _ (b : Rules) (t : List ℕ) where
 
   pub origin-count : length (originsOf (rewriting b t)) ≡ length (rewriting b t)
   origin-count = Counts.origins-length (rewriting b t)
+
+  -- document 02, No. 5: "if it is empty, the word is written and the symbol at that position is kept": no stretch covers it; "Every origin of an
+  -- inserted word is its position"
+  pub inserted-keeps : (i : ℕ) → Takes b t i i → covered (taken b t) i ≡ false
+  inserted-keeps = Kept.taken-empty b t
+
+  pub inserted-origins : (i : ℕ) → written b t i i ≡ marks (ruleWord b (ruleOf b t i i)) i
+  inserted-origins i = WordMarks.marks-own (ruleWord b (ruleOf b t i i)) i
+
+  -- each origin is a position of the tape; or "n at the tape's end", and then a word is put in there
+  pub origin-on-tape : (m : Mark) → List·Memᴰ m (rewriting b t) → (m .origin < length t) ⊎ ((m .origin ≡ length t) × Takes b t (length t) (length t))
+  origin-on-tape = Rising.origin-within b t
 
   -- along the output no origin is below one before it
   pub origins-never-fall : NeverFalls (originsOf (rewriting b t))
@@ -194,19 +219,18 @@ module _ (b : Rules) (t : List ℕ) where
   pub output-length : length (rewriting b t) + removed (takenLines (account b t)) ≡ length t + writes b (takenLines (account b t))
   output-length = Lengths.rewriting-length b t
 
--- 5. Document 01, "0 ≤ i < j ≤ n": no candidate of an accepted book is empty. So in 2. the start "at or after the end" is never the last one again.
-pub accepted-past : (s : List ℕ) → checkDef s .reply ≡ 0 → (t : List ℕ) (i j r : ℕ) → Candidate (rulesIn s) t i j r → i < j
-accepted-past s h t = NoEmpty.past-start (rulesIn s) t (NoEmpty.no-empty s h)
+  -- at most one stretch a position, the tape's end among them
+  pub taken-limit : length (taken b t) ≤ length t + 1
+  taken-limit = Limits.taken-most b t
 
--- so each origin is a position of the tape
-pub origin-on-tape : (s : List ℕ) → checkDef s .reply ≡ 0 → (t : List ℕ) (m : Mark) → List·Memᴰ m (rewriting (rulesIn s) t) → m .origin < length t
-origin-on-tape s h t = Rising.origin-inside (rulesIn s) t (NoEmpty.no-empty s h)
+-- 5. No output of an accepted book is longer than 9n + 8 symbols; the insertions above have one that is as long.
+pub output-limit : (s : List ℕ) → checkDef s .reply ≡ 0 → (t : List ℕ) → length (rewriting (rulesIn s) t) ≤ mostOutput (length t) longestWord
+output-limit s h t = Limits.output-most (rulesIn s) t longestWord (Limits.word-short s h)
 
--- 6. SHOW of a line of an account is its candidate's stretch, where the account stands at the front of any lines; and so it stands after ACCOUNT:
--- the stretch's bounds, and what stands in it.
-pub shown-is-stretch : (s t lines : List ℕ) → checkDef s .reply ≡ 0 → (k : ℕ) → k < length (account (rulesIn s) t)
-    → between (lineNumber (account (rulesIn s) t) k .start) (lineNumber (account (rulesIn s) t) k .end)
-    ≡ boundsOf (length t) (onto (wordsIn (account (rulesIn s) t)) lines) k
+-- 6. SHOW of a line of an account is its candidate's stretch, an empty one at its start, where the account stands at the front of any lines; and so it
+-- stands after ACCOUNT: the stretch's bounds, and what stands in it.
+pub shown-is-stretch : (b : Rules) (t lines : List ℕ) (k : ℕ) → k < length (account b t)
+    → between (lineNumber (account b t) k .start) (lineNumber (account b t) k .end) ≡ boundsOf (length t) (onto (wordsIn (account b t)) lines) k
 shown-is-stretch = Showing.bounds-line
 
 module _ (s t rows sets scratch lines : List ℕ) (k : ℕ) where
@@ -220,8 +244,9 @@ module _ (s t rows sets scratch lines : List ℕ) (k : ℕ) where
       ≡ showDef t (accountDef s t rows sets scratch lines .lines) k
   shown-symbols = ShownAfter.symbols-after s t rows sets scratch lines k
 
--- 7. After REWRITE, whatever was lent: the origins that the answer counts never fall, and each is a position of the tape. That is what a printed time
--- needs: with a clock that never falls and has a time for each position, a symbol prints no earlier than the one before it.
+-- 7. After REWRITE, whatever was lent: the origins that the answer counts never fall, and each is a position of the tape, or its end where a word is put
+-- in. That is what a printed time needs: with a clock that never falls and has a time for each position and for the end, a symbol prints no earlier than
+-- the one before it.
 module _ (s t rows sets scratch out origins : List ℕ) where
   abbrev after : AfterRewrite
   after = rewriteDef s t rows sets scratch out origins
@@ -229,9 +254,10 @@ module _ (s t rows sets scratch out origins : List ℕ) where
   pub times-never-fall : NeverFalls (take (after .answer .length) (after .origins))
   times-never-fall = TimesAfter.times-rise s t rows sets scratch out origins
 
-  pub times-on-tape : (k : ℕ) → k < after .answer .length → getD (after .origins) k 0 < length t
-  times-on-tape = TimesAfter.times-inside s t rows sets scratch out origins
+  pub times-on-tape : (k : ℕ) → k < after .answer .length
+      → (getD (after .origins) k 0 < length t) ⊎ ((getD (after .origins) k 0 ≡ length t) × Takes (rulesIn s) t (length t) (length t))
+  times-on-tape = TimesAfter.times-within s t rows sets scratch out origins
 
-  pub printed-never-fall : (clock : List ℕ) → NeverFalls clock → length t ≤ length clock → (j k : ℕ) → j ≤ k → k < after .answer .length
+  pub printed-never-fall : (clock : List ℕ) → NeverFalls clock → length t < length clock → (j k : ℕ) → j ≤ k → k < after .answer .length
       → getD clock (getD (after .origins) j 0) 0 ≤ getD clock (getD (after .origins) k 0) 0
   printed-never-fall = TimesAfter.times-print s t rows sets scratch out origins

@@ -37,12 +37,12 @@ module _ (s t rows sets scratch lines : List ℕ) (k : ℕ) where
   abbrev line : Line
   line = lineNumber (account (rulesIn s) t) k
 
-  listed : checkDef s .reply ≡ 0 → k < linesDef (rulesIn s) t lines .answer .candidates
+  listed : k < linesDef (rulesIn s) t lines .answer .candidates
       → between (line .start) (line .end) ≡ boundsOf (length t) (linesDef (rulesIn s) t lines .lines) k
   unfolding linesDef
-  listed z =
+  listed =
       by-test (λ (x : AfterLines). k < x .answer .candidates → between (line .start) (line .end) ≡ boundsOf (length t) (x .lines) k)
-      (leb (lineLength * length (account (rulesIn s) t)) (length lines)) _ _ (λ e h. bounds-line s t lines z k h) (λ e h. absurd (omega arith))
+      (leb (lineLength * length (account (rulesIn s) t)) (length lines)) _ _ (λ e h. bounds-line (rulesIn s) t lines k h) (λ e h. absurd (omega arith))
 
   pub bounds-after : k < accountDef s t rows sets scratch lines .answer .candidates
       → between (line .start) (line .end) ≡ boundsOf (length t) (accountDef s t rows sets scratch lines .lines) k
@@ -50,7 +50,7 @@ module _ (s t rows sets scratch lines : List ℕ) (k : ℕ) where
   bounds-after =
       by-test (λ (x : AfterAccount). k < x .answer .candidates → between (line .start) (line .end) ≡ boundsOf (length t) (x .lines) k)
       (eqb (readyDef s t rows sets scratch .answer .reply) 0) _ _
-      (λ e h. listed (ready s t rows sets scratch (eqb-true (readyDef s t rows sets scratch .answer .reply) 0 e) .accepted) h)
+      (λ e h. listed h)
       (λ e h. absurd (omega arith))
 
   in-order : k < linesDef (rulesIn s) t lines .answer .candidates → line .start ≤ line .end

@@ -1,9 +1,10 @@
 -- Document 01: "SHOW gets a tape, an account and a line number, and hands back that stretch of the tape itself. If the line is not wholly inside
--- the account, or its start is not below its end, or its end is past the tape, it hands back the empty part at the tape's front."
+-- the account, .. or its end is past the tape, it hands back the empty part at the tape's front", and since document 02, No. 5: "SHOW gives an empty
+-- stretch as an empty part at its start, and the front only when start is above end or for the other two causes".
 use Prim.Native.Nat.{ℕ, _+_, _-_, _*_}
 use mathlib.Core.List.{List}
 use mathlib.Core.Bool.{cond, _&&_}
-use lib.Dec.{leb, ltb}
+use lib.Dec.{leb}
 use lib.ListN.{length, getD, take, drop}
 use Rattle.stretches.specs.Account.{lineLength, lineStart, lineEnd}
 use Rattle.rewriter.specs.declared.shown.Bounds.{Bounds}
@@ -28,7 +29,7 @@ wordsThrough k = lineLength * (k + 1)
 -- the stretch that line k names in a tape of n symbols, or the empty one at the front
 unfoldable pub boundsOf : ℕ → List ℕ → ℕ → Bounds
 boundsOf n lines k =
-    cond (leb (wordsThrough k) (length lines) && ltb (startIn lines k) (endIn lines k) && leb (endIn lines k) n)
+    cond (leb (wordsThrough k) (length lines) && leb (startIn lines k) (endIn lines k) && leb (endIn lines k) n)
     (between (startIn lines k) (endIn lines k))
     (between 0 0)
 

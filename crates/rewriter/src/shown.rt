@@ -12,7 +12,8 @@ use lines::LINE_WORDS;
 pub struct Bounds {
     // Where it begins, at most `end`: SHOW's part is cut there, and C adds it to its pointer.
     pub start: usize,
-    // The position after its last, at most the tape's length, so that the part is one of the tape; 0 where the line names no stretch.
+    // The position after its last, or its start where it is empty; at most the tape's length, so that the part is one of the tape; 0 where the line
+    // names no stretch.
     pub end: usize,
 }
 
@@ -33,7 +34,7 @@ pub fn bounds_of(n: usize, lines: &[u16], line: usize) -> Bounds
     let i = line * LINE_WORDS;
     let start = wide(lines[i + LINE_START]);
     let end = wide(lines[i + LINE_END]);
-    if end <= start {
+    if end < start {
         return Bounds { start: 0, end: 0 };
     }
     if n < end {

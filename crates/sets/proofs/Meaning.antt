@@ -9,13 +9,13 @@ use mathlib.Core.Logic.{_↔_, _⊎_, inl, inr, ⊎-elim}
 use native.Mathlib.Omega.{arith}
 use native.Mathlib.Decide.{decLt}
 use borrow.Author.Tests.{lt-ltb, le-ltb}
-use lib.Dec.{T, eqb, ltb}
+use lib.Dec.{T, eqb, eqb→eq, ltb}
 use lib.Bits.{bitAnd, bitOr}
 use lib.ListN.{length, getD, take, drop, length-take, length-drop}
 use lib.Seq.{slice, slice-empty, take-suc, drop-cons, drop-length, drop-drop}
 use Rattle.book.specs.Format.{leftPart, focusPart, rightPart, startFlag, acceptFlag}
 use Rattle.book.specs.Reading.{Book}
-use Rattle.book.specs.Language.{leads, stateOf, isOf, starts, ends, isStart, isAccept, accepts, someEnd, someFront, rules}
+use Rattle.book.specs.Language.{leads, stateOf, isOf, starts, ends, isStart, isAccept, someState, accepts, someEnd, someFront, rules}
 use Rattle.book.specs.Outline.{ruleMask, allMask}
 use Rattle.book.specs.StateSets.{member}
 use Rattle.book.specs.Sound.{Sound}
@@ -28,7 +28,7 @@ use Rattle.sets.proofs.Runs.{Start, Accept, LeftHolds, RightHolds, Appl
 use Rattle.sets.proofs.Bridge.{machine, book-stays, starts-in, starts-out, ends-in, ends-out, leads-in, leads-out, left-iff, right-iff, applies-iff}
 use Rattle.sets.proofs.Slices.{take-cut, slice-cut, slice-join, slice-snoc, cut-front, cut-rest, cut-length, slice-take}
 use Rattle.sets.proofs.Masks as Masks
-use Rattle.sets.proofs.Masks.{none-of, none-rule, member-rule, member-of, none-both, meets, member-joins, at-rule}
+use Rattle.sets.proofs.Masks.{none-of, none-rule, member-all, member-rule, member-of, none-both, meets, member-joins, at-rule}
 use Rattle.sets.proofs.Closing.{into-past}
 use Rattle.sets.proofs.Steps.{In, set-law, into-law, first-law, next-law, last-law, prev-law, meets-accept, meets-start, focus-first-law, focus-next-law}
 
@@ -328,6 +328,22 @@ module _ (b : Book) (o : Sound b) where
       let R = eqb (stateOf b s .rule) r in let A = isOf part acceptFlag (stateOf b s) in
       subst T (none-both b o (λ k. isOf part acceptFlag (stateOf b k)) (none-of b part acceptFlag) X e s)
       (and-both A (member X s) (and-right R A (and-left (R && A) (member X s) (z .3))) (and-right (R && A) (member X s) (z .3))))
+
+  -- a part of which no state both starts and accepts has no empty word
+  pub empty-none : (r part : ℕ) → bitAnd (allMask part startFlag (b .states)) (allMask part acceptFlag (b .states)) ≡ 0 → T (accepts b r part []) → ⊥
+  unfolding accepts isStart isAccept leads
+  empty-none r part e x =
+      let n = length (b .states) in
+      let X = allMask part startFlag (b .states) in
+      let accepting : ℕ → ℕ → Bool = λ s q. isAccept b r part q && leads (b .arcs) s [] q in
+      let p = any-up (λ (s : ℕ). isStart b r part s && someState b (accepting s)) 0 n .0 x in
+      let s = p .0 in
+      let q = any-up (accepting s) 0 n .0 (and-right (isStart b r part s) (someState b (accepting s)) (p .3)) in
+      let same = eqb→eq s (q .0) (and-right (isAccept b r part (q .0)) (eqb s (q .0)) (q .3)) in
+      let A = subst (λ (z : ℕ). T (isAccept b r part z)) (sym same) (and-left (isAccept b r part (q .0)) (eqb s (q .0)) (q .3)) in
+      let S = and-right (eqb (stateOf b s .rule) r) (starts b part s) (and-left (isStart b r part s) (someState b (accepting s)) (p .3)) in
+      let held = and-both (isAccept b r part s) (member X s) A (subst T (sym (member-all b o part startFlag s)) S) in
+      subst T (accept-none r part X e) (any-up (λ (k : ℕ). isAccept b r part k && member X k) 0 n .1 (s, p .1, p .2, held))
 
   module _ (L : ℕ) where
     no-start : (s : ℕ) → length (b .states) ≤ s → mayStart b L s ≡ false

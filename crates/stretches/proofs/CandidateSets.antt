@@ -2,8 +2,8 @@
 -- Assumes nothing.
 use Prim.Native.Nat.{ℕ, suc, _+_, _-_, _≤_}
 use mathlib.Core.List.{List}
-use mathlib.Core.Bool.{_&&_, cond}
-use mathlib.Core.Path.{_≡_, sym, ap, _∙_}
+use mathlib.Core.Bool.{Bool, true, false, _&&_, cond}
+use mathlib.Core.Path.{_≡_, refl, sym, ap, _∙_}
 use native.Mathlib.Omega.{arith}
 use lib.Dec.{T}
 use lib.ListN.{length}
@@ -17,13 +17,22 @@ use Rattle.sets.specs.Sets.{leftAt, rightAt}
 use Rattle.sets.specs.Focus.{meetsAccept, meetsStart, focusAt}
 use Rattle.sets.proofs.Meaning.{left-holds, right-holds, focus-test, focus-dead}
 use Rattle.stretches.specs.Candidates.{candidate, someRule, rulesOf, lastOf, longest}
-use Rattle.stretches.proofs.NoEmpty.{longest-past}
 use Rattle.stretches.proofs.Last.{last-none, last-split, last-snoc}
 
--- the walk from i goes up to j, and best is where the last candidate met ends; it may look at the ends past i alone
+-- the walk from i goes up to j, and best is where the last candidate met ends: i itself is no farther than none
 module _ (b : Rules) (t : List ℕ) (i : ℕ) where
   abbrev pub Best : ℕ → ℕ → Type 0
   Best j best = best ≡ lastOf (someRule b t i) (upFrom (suc i) (j - i)) i
+
+  longest-past : i ≤ length t → longest b t i ≡ lastOf (someRule b t i) (upFrom (suc i) (length t - i)) i
+  unfolding longest
+  longest-past h =
+      let e : suc (length t) - i ≡ suc (length t - i) = omega arith in
+      ap (λ (k : ℕ). lastOf (someRule b t i) (upFrom i k) i) e ∙ ap (lastOf (someRule b t i) (upFrom (suc i) (length t - i))) (same (someRule b t i i))
+    where
+      same : (c : Bool) → cond c i i ≡ i
+      same true = refl
+      same false = refl
 
   pub best-first : Best i i
   best-first = let e : i - i ≡ 0 = omega arith in rw e
@@ -35,7 +44,7 @@ module _ (b : Rules) (t : List ℕ) (i : ℕ) where
       rw (e₁, last-snoc (someRule b t i) (suc i) (j - i) i, e₂, e)
 
   pub best-end : (j best : ℕ) → i ≤ j → j ≡ length t → Best j best → best ≡ longest b t i
-  best-end j best g z e = e ∙ ap (λ (k : ℕ). lastOf (someRule b t i) (upFrom (suc i) (k - i)) i) z ∙ sym (longest-past b t i (omega arith))
+  best-end j best g z e = e ∙ ap (λ (k : ℕ). lastOf (someRule b t i) (upFrom (suc i) (k - i)) i) z ∙ sym (longest-past (omega arith))
 
 module _ (b : Book) (h : Sound b) (t : List ℕ) where
   -- the contexts by the sets, the focus language itself

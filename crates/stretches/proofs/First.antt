@@ -65,3 +65,12 @@ first-is p a (suc n) d y h k t = go (p a) refl (λ g. first-is p (suc a) n d y g
         let l = r .low in
         let m = r .high in
         record { low = omega arith; high = omega arith; passes = r .passes; least = λ z i u. r .least z (w z i u) u }
+
+-- where some number passes it does not matter which number stands for none
+pub first-some : (p : ℕ → Bool) (a n d e y : ℕ) → a ≤ y → y < a + n → T (p y) → firstOf p (upFrom a n) d ≡ firstOf p (upFrom a n) e
+first-some p a n d e y h k t =
+    let x = first-is p a n d y h k t in
+    let z = first-is p a n e y h k t in
+    let l = x .least (firstOf p (upFrom a n) e) (z .low) (z .passes) in
+    let m = z .least (firstOf p (upFrom a n) d) (x .low) (x .passes) in
+    omega arith

@@ -4,7 +4,7 @@ use Prim.Native.Nat.{ℕ, _+_, _≤_, _<_}
 use native.Mathlib.Nat.{add-zero}
 use native.Mathlib.Numerals.{add-one}
 use native.Mathlib.Omega.{arith}
-use mathlib.Core.Path.{_≡_, refl, sym, _∙_, ap}
+use mathlib.Core.Path.{_≡_, refl, subst, sym, _∙_, ap}
 use mathlib.Core.List.{List, [], _∷_, _++_, append-assoc, append-nil}
 use lib.ListN.{length, take, drop, set, length-append, length-drop, take-append-drop}
 use lib.Seq.{length-take-le, take-at, drop-at, drop-drop, set-split, set-append-seam, append-snoc}
@@ -77,6 +77,18 @@ put-nil l p = sym (rw (add-zero, append-nil) (take-append-drop p l))
 
 pub put-one : (l : List ℕ) (p x : ℕ) → p < length l → set l p x ≡ put l p (x ∷ [])
 put-one l p x h = rw (set-split l p x h, append-snoc, add-one)
+
+-- one list after the other
+pub put-both : (l : List ℕ) (at : ℕ) (x y : List ℕ) → at + length (x ++ y) ≤ length l → put (put l at x) (at + length x) y ≡ put l at (x ++ y)
+put-both l at x y h =
+    let n = length-append x y in
+    let whole = take at l ++ (x ++ y) in
+    let first = front-put l l at x y whole (omega arith) (front-begin l (x ++ y) at (omega arith)) in
+    let room : at + length x + length y ≤ length (put l at x) = omega (arith, length-put l at x (omega arith)) in
+    let second =
+    front-put l (put l at x) (at + length x) y [] whole room
+    (subst (λ (z : List ℕ). Front l (put l at x) (at + length x) z whole) (sym (append-nil y)) first) in
+    front-finish l (put (put l at x) (at + length x) y) (x ++ y) at (at + length x + length y) (omega arith) second .1
 
 -- the last element of what was written, written anew
 pub put-last : (l : List ℕ) (at : ℕ) (xs : List ℕ) (z a : ℕ) → at ≤ length l → set (put l at (xs ++ (z ∷ []))) (at + length xs) a ≡ put l at (xs ++ (a ∷ []))

@@ -11,11 +11,11 @@ use native.Mathlib.Nat.{zero-add}
 use lib.Dec.{T, leb, ltb, leb→le, le→leb, ltb→lt, lt→ltb}
 use lib.ListN.{length, getD}
 use Rattle.book.specs.Language.{Rules}
-use Rattle.book.proofs.Tests.{and-both, and-left, and-right, any-in, any-out}
+use Rattle.book.proofs.Tests.{same-test, and-both, and-left, and-right, any-in, any-out}
 use Rattle.stretches.specs.Candidates.{Stretch, taken}
 use Rattle.stretches.specs.Output.{Mark, keptMarks, written, rewriting}
 use Rattle.stretches.specs.Account.{each}
-use Rattle.stretches.specs.Sentences.{covered, keptSymbols, writtenWords, Shuffled, none, left, right}
+use Rattle.stretches.specs.Sentences.{Takes, covered, keptSymbols, writtenWords, Shuffled, none, left, right}
 use Rattle.stretches.proofs.Lists.{hit, miss, each-snoc, each-same}
 use Rattle.stretches.proofs.Walks.{symbolAt, symbol-at, symbol-end, Walked, Place, inside, begins, alone, place}
 use Rattle.stretches.proofs.Stretches.{stretch, tk, tk-inside, tk-begins, tk-alone, taken-list, each-walked, taken-walked}
@@ -64,6 +64,12 @@ module _ (b : Rules) (t : List ℕ) where
       let d = z .0 in
       n (d .start) (d .end) (each-walked b t d (z .1)) (leb→le (d .start) i (and-left (leb (d .start) i) (ltb i (d .end)) (z .2)))
       (ltb→lt i (d .end) (and-right (leb (d .start) i) (ltb i (d .end)) (z .2)))
+
+  -- where an empty stretch is taken no stretch covers the symbol
+  pub taken-empty : (i : ℕ) → Takes b t i i → covered (taken b t) i ≡ false
+  taken-empty i m =
+      same-test (covered (taken b t) i) false
+      (λ x. absurd (bare i (bare-begins b t i i (omega arith) (taken-walked b t i i .0 m)) x), λ x. absurd x)
 
   -- what is kept at i; at the tape's end nothing
   abbrev keptAt : ℕ → List Mark

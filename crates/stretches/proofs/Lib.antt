@@ -25,7 +25,6 @@ pub mod Rising
 pub mod Before
 pub mod Batches
 -- Laws of the passes over a tape, position after position: that the sets find the candidates, and that what is found is what is taken.
-pub mod NoEmpty
 pub mod CandidateSets
 pub mod Meets
 pub mod Pruned

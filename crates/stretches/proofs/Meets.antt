@@ -4,20 +4,20 @@ use mathlib.Core.Path.{_≡_, sym, ap, ap₂, _∙_}
 use mathlib.Core.Logic.{_≢_}
 use mathlib.Core.Bool.{Bool, true, false, cond, not, _&&_}
 use mathlib.Core.Bool as B
-use mathlib.Core.List.{List}
+use mathlib.Core.List.{List, []}
 use native.Mathlib.Omega.{arith}
 use native.Mathlib.Numerals.{add-one}
 use borrow.Author.Tests.{eq-eqb, ne-eqb}
-use lib.Dec.{eqb}
+use lib.Dec.{T, eqb}
 use lib.Bits.{bitAnd, bitOr}
 use lib.ListN.{length, getD}
 use Rattle.book.specs.Format.{mostRules, focusPart, rightPart}
 use Rattle.book.specs.Reading.{Book}
-use Rattle.book.specs.Language.{upFrom}
+use Rattle.book.specs.Language.{upFrom, rules}
 use Rattle.book.specs.Outline.{leftAccepts, focusStarts, focusAccepts, rightStarts, allStarts, allAccepts}
 use Rattle.sets.specs.Focus.{meetsAccept, meetsStart, focusFirst, openedBy, openedBelow}
 use Rattle.sets.proofs.Meaning as Meaning
-use Rattle.sets.proofs.Meaning.{accept-mask, start-mask, accept-none, opened-mask, below-none, below-more, below-all}
+use Rattle.sets.proofs.Meaning.{accept-mask, start-mask, accept-none, empty-none, opened-mask, below-none, below-more, below-all}
 use Rattle.stretches.specs.Candidates.{firstOf}
 use Rattle.stretches.specs.Ready.{Tests}
 use Rattle.stretches.specs.Position.{hits, noRule, hitRule}
@@ -63,6 +63,10 @@ module _ (b : Book) (n : ℕ) (masks : List ℕ) (m : Tests b n masks) where
   -- nothing starts: the right set holds no focus start at all
   pub none-first : (L R : ℕ) → bitAnd R (getD masks allStarts 0) ≡ 0 → 0 ≡ focusFirst b L R
   none-first L R e = sym (Meaning.first-none b (m .sound) L R (sym (ap (bitAnd R) (m .masked .all-starts)) ∙ e))
+
+  -- no focus is empty: no focus state both starts and accepts
+  pub none-empty : bitAnd (getD masks allStarts 0) (getD masks allAccepts 0) ≡ 0 → (r : ℕ) → T (rules b .focus r []) → ⊥
+  none-empty e r = empty-none b (m .sound) r focusPart (sym (ap₂ bitAnd (m .masked .all-starts) (m .masked .all-accepts)) ∙ e)
 
   -- what one rule opens, by its masks
   module _ (L r : ℕ) (known : r < n) where

@@ -7,7 +7,7 @@ use denote.Triple.Clauses.{Lasts, atExit}
 use borrow.Fn.Kinds.{Dens, resT, endedOf}
 use Rattle.book.specs.Language.{rulesIn}
 use Rattle.book.specs.Determined.{Determined, Called}
-use Rattle.stretches.specs.Candidates.{ruleOf}
+use Rattle.stretches.specs.Position.{lowest}
 use Rattle.stretches.proofs.walk.first_set.Kinds as first-kinds
 use Rattle.stretches.proofs.walk.first_set.Reads as first-reads
 use Rattle.stretches.proofs.walk.rule_hits.Kinds as hits-kinds
@@ -28,6 +28,6 @@ pub one-taken : (κs : Lfts 8) (a : Dens κs taken-kinds.ps) (x y : resT taken-k
     → x ≡ y
 one-taken κs a x y v w p q =
     let far = p .0 .far ∙ sym (q .0 .far) in
-    let by : ℕ → ℕ = λ e. ruleOf (rulesIn (a .0 .now)) (a .1 .1 .1 .1 .0 .now) (a .1 .1 .1 .1 .1 .1 .1 .0) e in
+    let by : ℕ → ℕ = λ e. lowest (rulesIn (a .0 .now)) (a .1 .1 .1 .1 .0 .now) (a .1 .1 .1 .1 .1 .1 .1 .0) e in
     let who = p .0 .who ∙ ap by far ∙ sym (q .0 .who) in
     λ i. record { end = far i; rule = who i }

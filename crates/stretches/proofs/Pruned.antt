@@ -31,28 +31,29 @@ module _ (book tape sets scratch : List ℕ) (seen : RightSets book tape sets sc
   abbrev b : Book
   b = bookOf book
 
+  -- the right set that is read at j
+  right-at : (j R : ℕ) → j ≤ length tape → R ≡ rightSet sets (getD scratch j 0) → R ≡ rightAt b tape j
+  right-at j R h e = e ∙ seen .right j h
+
   pub pruned-start : (L R F : ℕ) → i ≤ length tape → L ≡ leftAt b tape i → R ≡ rightSet sets (getD scratch i 0) → F ≡ focusFirst b L R
       → Pruned b tape i i F
-  pruned-start L R F k e f g = record { low = omega arith; high = k; states = rw (g, e, f, seen .right i k) (sym (focus-first b tape i)) }
+  pruned-start L R F k e f g = record { low = omega arith; high = k; states = rw (g, e, right-at i R k f) (sym (focus-first b tape i)) }
 
   module _ (j set : ℕ) (was : Pruned b tape i j set) where
-    module _ (inside : j < length tape) (R X : ℕ) (e : R ≡ rightSet sets (getD scratch (j + 1) 0)) (f : X ≡ focusNext b set (getD tape j 0) R) where
-      right-here : R ≡ rightAt b tape (suc j)
-      right-here = e ∙ ap (λ (k : ℕ). rightSet sets (getD scratch k 0)) (add-one j) ∙ seen .right (suc j) inside
+    pub pruned-turn : j < length tape → (R X : ℕ) → R ≡ rightSet sets (getD scratch (j + 1) 0) → X ≡ focusNext b set (getD tape j 0) R
+        → Pruned b tape i (j + 1) X
+    pruned-turn inside R X e f =
+        let l = was .low in
+        let right : R ≡ rightAt b tape (suc j) = right-at (j + 1) R (omega arith) e ∙ ap (rightAt b tape) (add-one j) in
+        rw add-one (record { low = omega arith; high = inside; states = f ∙ rw (was .states, right) (sym (focus-next b tape i j (was .low) inside)) })
 
-      next-set : X ≡ focusAt b tape i (suc j)
-      next-set = f ∙ rw (was .states, right-here) (sym (focus-next b tape i j (was .low) inside))
-
-      pub pruned-next : Pruned b tape i (suc j) X
-      pruned-next = let l = was .low in record { low = omega arith; high = inside; states = next-set }
-
-      pub pruned-turn : Pruned b tape i (j + 1) X
-      pruned-turn = rw add-one pruned-next
-
-      pub pruned-hits : (r : ℕ) → hits b X R r ≡ candidate (rulesIn book) tape i (suc j) r
-      unfolding hits
-      pruned-hits r = sym (candidate-test b (sound book (seen .accepted)) tape i r (suc j) (let l = was .low in omega arith)
-          ∙ (λ x. meetsAccept b r focusPart (sym next-set x) && meetsStart b r rightPart (sym right-here x)))
+    -- the tests at j, rule after rule, are those of the candidates that end there, the empty one among them
+    pub pruned-hits : (R : ℕ) → R ≡ rightSet sets (getD scratch j 0) → (r : ℕ) → hits b set R r ≡ candidate (rulesIn book) tape i j r
+    unfolding hits
+    pruned-hits R e r =
+        let right = right-at j R (was .high) e in
+        sym (candidate-test b (sound book (seen .accepted)) tape i r j (was .low)
+        ∙ (λ x. meetsAccept b r focusPart (sym (was .states) x) && meetsStart b r rightPart (sym right x)))
 
     pub pruned-dead : set ≡ 0 → (r k : ℕ) → j ≤ k → T (candidate (rulesIn book) tape i k r) → ⊥
     pruned-dead z r k h = dead b (sound book (seen .accepted)) tape i r j k (was .low) h (sym (was .states) ∙ z)

@@ -1,21 +1,22 @@
 -- Origins never fall along the output: between the stretches the positions count up, and a replacement goes from its stretch's start to its last
--- position. And each is a position of the tape. Assumes nothing.
+-- position. And each is a position of the tape, or its end. Assumes nothing.
 use Prim.Native.Nat.{ℕ, zero, suc, _+_, _-_, _≤_, _<_}
 use mathlib.Core.List.{List, [], _∷_, _++_, List·Memᴰ, List·Memᴰ·head, List·Memᴰ·tail}
-use mathlib.Core.Path.{_≡_, refl, sym, subst}
+use mathlib.Core.Path.{_≡_, refl, sym, subst, subst₂}
+use mathlib.Core.Logic.{_⊎_, inl, inr, by-cases}
 use native.Mathlib.Omega.{arith}
+use native.Mathlib.Decide.{decLt}
 use lib.ListN.{length, getD, take, replicate, length-take}
 use lib.Seq.{getD-take}
 use Rattle.book.specs.Language.{Rules, upFrom}
 use Rattle.stretches.specs.Candidates.{ruleOf}
 use Rattle.stretches.specs.Output.{Mark, lastPosition, ruleWord, rewriting, originsOf}
 use Rattle.stretches.specs.Account.{Line, account}
-use Rattle.stretches.specs.Sentences.{takenLines, Chain, wordOrigins, originsFrom, Traced, kept, replaced, NeverFalls}
+use Rattle.stretches.specs.Sentences.{Takes, takenLines, Chain, wordOrigins, originsFrom, Traced, kept, replaced, NeverFalls}
 use Rattle.stretches.proofs.WordMarks.{spelled-most}
 use Rattle.stretches.proofs.Stretches.{taken-walked}
 use Rattle.stretches.proofs.Lengths.{taken-chain}
 use Rattle.stretches.proofs.Origins.{rewriting-origins, rewriting-traced}
-use Rattle.stretches.proofs.NoEmpty.{NoEmpty, past-start}
 
 -- the list goes from a to e and never down
 abbrev Rises : ℕ → ℕ → List ℕ → Type 0
@@ -87,13 +88,18 @@ module _ (b : Rules) (t : List ℕ) where
       (subst (Rises 0 (length t)) (sym (rewriting-origins b t))
       (rises-lines b t 0 (takenLines (account b t)) (omega arith) (taken-chain b t)))
 
-  -- where no candidate is empty each origin is a position of the tape
-  pub origin-inside : NoEmpty b → (m : Mark) → List·Memᴰ m (rewriting b t) → m .origin < length t
-  origin-inside none m z = by (rewriting-traced b t m z)
+  -- each origin is a position of the tape; or the tape's end, where a word is put in
+  pub origin-within : (m : Mark) → List·Memᴰ m (rewriting b t) → (m .origin < length t) ⊎ ((m .origin ≡ length t) × Takes b t (length t) (length t))
+  origin-within m z = by (rewriting-traced b t m z)
     where
-      by : Traced b t m → m .origin < length t
-      by (kept h c e) = h
+      by : Traced b t m → (m .origin < length t) ⊎ ((m .origin ≡ length t) × Takes b t (length t) (length t))
+      by (kept h c e) = inl h
       by (replaced i j k w s) =
           let c = taken-walked b t i j .0 w .some .cand in
-          let p = past-start b t none i j _ c in
-          omega (arith, spelled-most (ruleWord b (ruleOf b t i j)) i j m k s, c .inside)
+          let p = spelled-most (ruleWord b (ruleOf b t i j)) i j m k s in
+          let o = c .ordered in
+          let n = c .inside in
+          by-cases (decLt (m .origin) (length t)) inl
+          (λ g. let f : i ≡ length t = omega arith in
+          let e : j ≡ length t = omega arith in
+          inr (omega arith, subst₂ (Takes b t) f e w))

@@ -10,23 +10,22 @@ use lib.ListN.{length, getD}
 use Rattle.book.specs.Reading.{Book, bookOf}
 use Rattle.book.specs.Language.{rules, rulesIn}
 use Rattle.book.proofs.Claims.{sound}
-use Rattle.book.proofs.Tests.{same-test}
 use Rattle.sets.specs.Sets.{leftAt}
 use Rattle.sets.specs.Focus.{focusFirst, focusNext}
 use Rattle.sets.specs.Tables.{rightSet}
-use Rattle.stretches.specs.Candidates.{candidate, someRule, ruleOf, firstOf, rulesOf}
+use Rattle.stretches.specs.Candidates.{candidate, someRule, firstOf, rulesOf}
 use Rattle.stretches.specs.Ready.{Ready, RightSets}
-use Rattle.stretches.specs.Position.{noRule, hitRule, TakenHere}
-use Rattle.stretches.proofs.NoEmpty.{no-empty, none-empty}
-use Rattle.stretches.proofs.First.{first-none, first-hit, first-miss}
+use Rattle.stretches.specs.Position.{noRule, hitRule, lowest, TakenHere}
+use Rattle.stretches.proofs.First.{first-hit, first-miss}
 use Rattle.stretches.proofs.CandidateSets.{Best, best-first, best-next, best-end, best-dead}
-use Rattle.stretches.proofs.Pruned.{Pruned, pruned-start, pruned-next, pruned-hits}
+use Rattle.stretches.proofs.Pruned.{Pruned, pruned-start, pruned-turn, pruned-hits}
 
--- the walk has come to j: `end` is where the last candidate met ends, i itself if none was met, and `rule` is its rule
+-- the walk has come to j: `end` is where the last candidate met ends, i itself if none past it was met, and `rule` is its rule, no rule's number if
+-- none was met
 pub record Scanned (b : Book) (t : List ℕ) (i j set end rule : ℕ) : Type 0 where
   pub walk : Pruned b t i j set
   pub best : Best (rules b) t i j end
-  pub who : rule ≡ ruleOf (rules b) t i end
+  pub who : rule ≡ lowest (rules b) t i end
 
 pub rights-of : (book tape rows sets scratch : List ℕ) → Ready book tape rows sets scratch → RightSets book tape sets scratch
 rights-of book tape rows sets scratch r = record { accepted = r .accepted; sets-room = r .sets-room; scratch-room = r .scratch-room; right = r .right }
@@ -35,46 +34,42 @@ module _ (book tape sets scratch : List ℕ) (seen : RightSets book tape sets sc
   abbrev b : Book
   b = bookOf book
 
-  abbrev here : ℕ → ℕ → Bool
-  here j r = candidate (rules b) tape i j r
+  -- the lowest rule that passes at an end is the lowest that has a candidate there, the empty one among them
+  hit-lowest : (j set R r : ℕ) → Pruned b tape i j set → R ≡ rightSet sets (getD scratch j 0) → r ≡ hitRule b set R → r ≡ lowest (rules b) tape i j
+  unfolding hitRule
+  hit-lowest j set R r p e g =
+      g ∙ ap (λ (q : ℕ → Bool). firstOf q (rulesOf (rules b)) noRule) (fun-ext (pruned-hits book tape sets scratch seen i j set p R e))
 
-  -- no focus is empty, so no rule has the empty stretch
-  none-here : 0 ≡ ruleOf (rules b) tape i i
-  none-here = sym (first-none (here i) 0 (length (b .words)) 0
-      (λ r. same-test (here i r) false (λ c. none-empty (rules b) tape (no-empty book (seen .accepted)) i r c, λ x. absurd x)))
-
-  pub walk-start : (L R F : ℕ) → i ≤ length tape → L ≡ leftAt b tape i → R ≡ rightSet sets (getD scratch i 0) → F ≡ focusFirst b L R
-      → Scanned b tape i i F i 0
-  walk-start L R F k e f g = record {
-    walk = pruned-start book tape sets scratch seen i L R F k e f g;
-    best = best-first (rules b) tape i;
-    who = none-here;
-  }
+  pub walk-start : (L R F r : ℕ) → i ≤ length tape → L ≡ leftAt b tape i → R ≡ rightSet sets (getD scratch i 0) → F ≡ focusFirst b L R
+      → r ≡ hitRule b F R → Scanned b tape i i F i r
+  walk-start L R F r k e f g h =
+      let p = pruned-start book tape sets scratch seen i L R F k e f g in
+      record { walk = p; best = best-first (rules b) tape i; who = hit-lowest i F R r p f h }
 
   module _ (j set end rule : ℕ) (was : Scanned b tape i j set end rule) where
     module _ (inside : j < length tape) (R X r : ℕ) (e : R ≡ rightSet sets (getD scratch (j + 1) 0)) (f : X ≡ focusNext b set (getD tape j 0) R)
         (g : r ≡ hitRule b X R) where
-      next-walk : Pruned b tape i (suc j) X
-      next-walk = pruned-next book tape sets scratch seen i j set (was .walk) inside R X e f
+      next-walk : Pruned b tape i (j + 1) X
+      next-walk = pruned-turn book tape sets scratch seen i j set (was .walk) inside R X e f
 
-      -- the lowest rule that passes at the next end is the lowest that has a candidate there
-      lowest : r ≡ firstOf (here (suc j)) (rulesOf (rules b)) noRule
-      unfolding hitRule
-      lowest = g ∙ ap (λ (p : ℕ → Bool). firstOf p (rulesOf (rules b)) noRule)
-          (fun-ext (pruned-hits book tape sets scratch seen i j set (was .walk) inside R X e f))
+      next-rule : r ≡ lowest (rules b) tape i (j + 1)
+      next-rule = hit-lowest (j + 1) X R r next-walk e g
 
-      next-best : (c : Bool) → someRule (rules b) tape i (suc j) ≡ c → Best (rules b) tape i (suc j) (cond c (suc j) end)
-      next-best c z = sym (ap (λ (c : Bool). cond c (suc j) end) z) ∙ best-next (rules b) tape i j end (was .walk .low) (was .best)
+      next-best : (c : Bool) → someRule (rules b) tape i (j + 1) ≡ c → Best (rules b) tape i (j + 1) (cond c (j + 1) end)
+      next-best c z =
+          rw add-one (sym (ap (λ (c : Bool). cond c (suc j) end) (ap (someRule (rules b) tape i) (sym (add-one j)) ∙ z))
+          ∙ best-next (rules b) tape i j end (was .walk .low) (was .best))
 
       pub walk-hit : r ≢ noRule → Scanned b tape i (j + 1) X (j + 1) r
       walk-hit h =
-          let z = first-hit (here (suc j)) 0 (length (b .words)) noRule 0 (λ q. h (lowest ∙ q)) in
-          rw add-one (record { walk = next-walk; best = next-best true (z .0); who = lowest ∙ z .1 })
+          let z = first-hit (candidate (rules b) tape i (j + 1)) 0 (length (b .words)) noRule 0 (λ q. h (next-rule ∙ q)) in
+          record { walk = next-walk; best = next-best true (z .0); who = next-rule }
 
       pub walk-miss : r ≡ noRule → Scanned b tape i (j + 1) X end rule
       walk-miss h =
-          let z = first-miss (here (suc j)) 0 (length (b .words)) noRule (omega (arith, sound book (seen .accepted) .rules)) (sym lowest ∙ h) in
-          rw add-one (record { walk = next-walk; best = next-best false z; who = was .who })
+          let few : 0 + length (b .words) ≤ noRule = omega (arith, sound book (seen .accepted) .rules) in
+          let z = first-miss (candidate (rules b) tape i (j + 1)) 0 (length (b .words)) noRule few (sym next-rule ∙ h) in
+          record { walk = next-walk; best = next-best false z; who = was .who }
 
     pub walk-dead : set ≡ 0 → TakenHere (rulesIn book) tape i end rule
     walk-dead z = record {

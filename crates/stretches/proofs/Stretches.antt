@@ -1,6 +1,6 @@
 -- For every batch, empty foci too: the stretches taken are those of C_LML and of document 01's sentence as request 5 widens it. Assumes nothing.
-use Prim.Native.Nat.{ℕ, suc, _<_}
-use mathlib.Core.List.{List, [], _∷_, List·Memᴰ, List·Memᴰ·head, List·Memᴰ·not-nil, List·Memᴰ·eq-of-singleton}
+use Prim.Native.Nat.{ℕ, zero, suc, _+_, _<_}
+use mathlib.Core.List.{List, [], _∷_, _++_, List·Memᴰ, List·Memᴰ·head, List·Memᴰ·not-nil, List·Memᴰ·eq-of-singleton}
 use mathlib.Core.Bool.{true, false, _&&_}
 use mathlib.Core.Path.{_≡_, refl, subst, subst₂, sym, ap, _∙_}
 use mathlib.Core.Logic.{_↔_}
@@ -12,7 +12,7 @@ use Rattle.book.proofs.Tests.{and-both, and-left, and-right}
 use Rattle.stretches.specs.Candidates.{Stretch, candidate, ruleOf, takenAt, taken}
 use Rattle.stretches.specs.Account.{each}
 use Rattle.stretches.specs.Paper.{Context, start, end, Earliest, CLML}
-use Rattle.stretches.specs.Sentences.{Candidate, Start, Chosen, Taken, first, next}
+use Rattle.stretches.specs.Sentences.{Candidate, Start, Chosen, Taken, first, next, Rising}
 use Rattle.stretches.proofs.Lists.{each-in, each-out, keep-yes, keep-not}
 use Rattle.stretches.proofs.First.{FirstPassing, first-is}
 use Rattle.stretches.proofs.Smallest.{Farthest, TakenAmong, first as first-among, next as next-among}
@@ -68,6 +68,26 @@ module _ (b : Rules) (t : List ℕ) where
 
   pub taken-walked : (i j : ℕ) → List·Memᴰ (stretch i j) (taken b t) ↔ Walked b t i j
   taken-walked i j = (taken-out i j, taken-in i j)
+
+  rising-down : (a : ℕ) (ds : List Stretch) → Rising (suc a) ds → Rising a ds
+  rising-down a [] h = tt
+  rising-down a (d ∷ ds) h = (omega (arith, h .0), h .1)
+
+  each-rising : (k i : ℕ) → i + k ≡ suc (length t) → Rising i (each tk i k)
+  each-rising zero i n = tt
+  each-rising (suc k) i n = go (place b t i (omega arith)) (each-rising k (suc i) (omega arith))
+    where
+      with-nil : tk i ≡ [] → Rising (suc i) (each tk (suc i) k) → Rising i (each tk i (suc k))
+      with-nil e h = subst (λ (x : List Stretch). Rising i (x ++ each tk (suc i) k)) (sym e) (rising-down i (each tk (suc i) k) h)
+
+      go : Place b t i → Rising (suc i) (each tk (suc i) k) → Rising i (each tk i (suc k))
+      go (inside s e w h g o) l = with-nil (tk-inside i s e h o) l
+      go (begins e w o) l = subst (λ (x : List Stretch). Rising i (x ++ each tk (suc i) k)) (sym (tk-begins i e o)) (omega arith, l)
+      go (alone m o) l = with-nil (tk-alone i o) l
+
+  -- no start is taken twice
+  pub taken-rising : Rising 0 (taken b t)
+  taken-rising = subst (Rising 0) (sym taken-list) (each-rising (suc (length t)) 0 (omega arith))
 
   -- 1. the paper
   pub taken-paper : (i j : ℕ) → List·Memᴰ (stretch i j) (taken b t) ↔ ((c : Context) × CLML b t c × (start c ≡ i) × (end c ≡ j))

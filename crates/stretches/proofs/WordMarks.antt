@@ -1,13 +1,15 @@
 -- The symbols and the origins of what is written; of a replacement its length, its symbols, and the origin of each. Assumes nothing.
 use Prim.Native.Nat.{ℕ, suc, _+_, _≤_, _<_}
 use mathlib.Core.List.{List, [], _∷_, _++_, List·Memᴰ, List·Memᴰ·head, List·Memᴰ·tail}
-use mathlib.Core.Path.{_≡_, refl, ap, _∙_}
+use mathlib.Core.Path.{_≡_, refl, ap, ap₂, _∙_}
 use mathlib.Core.Logic.{by-cases}
+use mathlib.Core.Bool.{Bool, true, false, cond, _&&_}
 use native.Mathlib.Omega.{arith}
 use native.Mathlib.Decide.{decLt}
 use borrow.Author.Tests.{lt-ltb, le-ltb, eq-eqb, ne-eqb}
+use lib.Dec.{eqb, ltb}
 use lib.ListN.{length, getD, replicate}
-use Rattle.stretches.specs.Output.{Mark, symbolsOf, originsOf, lastPosition, wordOrigin, marksFrom, wordMarks}
+use Rattle.stretches.specs.Output.{Mark, marks, symbolsOf, originsOf, lastPosition, wordOrigin, marksFrom, wordMarks}
 use Rattle.stretches.specs.Sentences.{wordOrigins, Spelled}
 
 pub origins-append : (xs ys : List Mark) → originsOf (xs ++ ys) ≡ originsOf xs ++ originsOf ys
@@ -55,6 +57,22 @@ pub marks-origins : (w : List ℕ) (i j : ℕ) → originsOf (wordMarks w i j) �
 marks-origins [] i j = refl
 marks-origins (x ∷ []) i j = refl
 marks-origins (x ∷ y ∷ w) i j = from-origins (length (x ∷ y ∷ w)) i j 0 x (y ∷ w) (omega arith) (omega arith)
+
+-- of an empty stretch each origin is its position
+module _ (n i : ℕ) where
+  own-origin : (k : ℕ) → wordOrigin n i i k ≡ i
+  own-origin k = go (ltb 1 n && eqb (suc k) n)
+    where
+      go : (c : Bool) → cond c (lastPosition i i) i ≡ i
+      go true = omega arith
+      go false = refl
+
+  from-own : (k : ℕ) (xs : List ℕ) → marksFrom n i i k xs ≡ marks xs i
+  from-own k [] = refl
+  from-own k (x ∷ xs) = ap₂ (λ (o : ℕ) (ms : List Mark). record { symbol = x; origin = o } ∷ ms) (own-origin k) (from-own (suc k) xs)
+
+pub marks-own : (w : List ℕ) (i : ℕ) → wordMarks w i i ≡ marks w i
+marks-own w i = from-own (length w) i 0 w
 
 -- each symbol of a replacement with its origin
 module _ (w : List ℕ) (i j : ℕ) (m : Mark) where

@@ -1,5 +1,5 @@
 -- Document 01's sentences on taken starts, verdicts, order, output and origins, as statements over the candidates; no contract uses them.
--- "No start is taken twice" is request 5's (document 02): without empty candidates it says nothing.
+-- "No start is taken twice" is request 5's (document 02).
 use Prim.Native.Nat.{ℕ, zero, suc, _+_, _-_, _≤_, _<_}
 use mathlib.Core.List.{List, [], _∷_, _++_, List·Memᴰ}
 use mathlib.Core.Bool.{Bool, true, false, _&&_, cond}
@@ -51,6 +51,11 @@ pub record Chosen (b : Rules) (t : List ℕ) (i j r : ℕ) : Type 0 where
 pub data Taken (b : Rules) (t : List ℕ) : ℕ → ℕ → ℕ → Type 0 where
   first : {i j r : ℕ} → First b t i → Chosen b t i j r → Taken b t i j r
   next : {i j r k l q : ℕ} → Taken b t i j r → Next b t i j k → Chosen b t k l q → Taken b t k l q
+
+-- document 02, No. 5, "no start is taken twice": each start is past the one before, the first at a or later
+abbrev pub Rising : ℕ → List Stretch → Type 0
+Rising a [] = Unit {0}
+Rising a (d ∷ ds) = (a ≤ d .start) × Rising (suc (d .start)) ds
 
 -- the walk of Candidates.antt takes the stretch from i to j
 abbrev pub Takes : Rules → List ℕ → ℕ → ℕ → Type 0

@@ -95,9 +95,9 @@ fn rule_hit(book: &[u8], masks: &[u64; MASKS], rules: usize, set: u64, right: u6
 
 // What is taken at a free position: the longest candidate that starts there, by its lowest rule.
 pub struct Taken {
-    // Where it ends, past the position and at most the tape's length; the position itself where nothing is taken, and so they tell the two.
+    // Where it ends, at most the tape's length: the position itself where it is empty, and where nothing is taken.
     pub end: usize,
-    // The number of its rule, 0 where nothing is taken: its word is written, and the account judges the other rules by it.
+    // The number of its rule, NO_RULE where nothing is taken: it alone tells the two. Its word is written, and the account judges the other rules by it.
     pub rule: usize,
 }
 
@@ -122,9 +122,10 @@ pub fn taken_at(
     ensures { λ r. ⌜ TakenHere (rulesIn (now (book .entry))) (now (tape .entry)) from (r .end) (r .rule) ⌝ }
     ensures { λ _. ⌜ Remembers (bookOf (now (book .entry))) (now (steps .exit)) (now (symbols .exit)) ⌝ }
 {
-    let mut set = first_set(book, masks, rules, left, right_set(sets, scratch, from));
+    let here = right_set(sets, scratch, from);
+    let mut set = first_set(book, masks, rules, left, here);
     let mut end = from;
-    let mut rule = 0;
+    let mut rule = rule_hit(book, masks, rules, set, here); // of the empty stretch
     let mut j = from;
     while j < tape.len() {
         if set == 0 {

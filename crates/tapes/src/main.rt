@@ -1,5 +1,6 @@
 // Runs what document 01 gives of BUILD, REWRITE, ACCOUNT and SHOW and does not mark as proved, and compares: the limits, and every reply number of
 // theirs with its place, its counts and what stands in each buffer afterwards. A line a case: ok or WRONG, operation, reply, place.
+mod full; // full.rt: the cases of a book that puts in everywhere
 mod pair; // pair.rt: the cases of the book PAIR
 
 use cases::Want;
@@ -73,8 +74,23 @@ fn show_cases() {
     let lines = [0, 1, 3, 0, 1, 0, 1, 2, 4, 0, 2, 1];
     show_case(&lines, 0, &[6, 7], 1, b"a stretch");
     show_case(&lines, 1, &[7, 8], 2, b"the second line");
-    show_case(&[0, 2, 2, 0, 2, 0], 0, &[], 0, b"start not below end");
+    show_case(&[0, 2, 2, 0, 2, 0], 0, &[], 2, b"an empty stretch");
+    show_case(
+        &[0, 4, 4, 0, 4, 0],
+        0,
+        &[],
+        4,
+        b"an empty stretch at the tape's end",
+    );
+    show_case(&[0, 3, 2, 0, 3, 0], 0, &[], 0, b"start above end");
     show_case(&[0, 3, 5, 0, 3, 0], 0, &[], 0, b"end past the tape");
+    show_case(
+        &[0, 5, 5, 0, 5, 0],
+        0,
+        &[],
+        0,
+        b"an empty stretch past the tape",
+    );
     show_case(&[0, 0, 1, 0, 0], 0, &[], 0, b"a cut line");
     show_case(&lines, 2, &[], 0, b"one past the last line");
     show_case(&lines, usize::MAX, &[], 0, b"no such line");
@@ -83,5 +99,6 @@ fn show_cases() {
 fn main() {
     pair::all();
     long_cases();
+    full::all();
     show_cases();
 }

@@ -28,62 +28,68 @@ mul-start-count c = search needs
 
 shared-slice-read-start-count : tie.Need-shared-slice-read-start-count Inv-loop μ-loop
 shared-slice-read-start-count c =
-    let s = c .before .before .before .before .before .before .before .before in
-    omega (arith, c .before .before .loop .inv .left .below, s .pre .1 .few, s .pre .1 .sets-room)
+    let s = c .before .before .before .before .before .before .before in
+    omega (arith, c .before .loop .inv .left .below, s .pre .1 .few, s .pre .1 .sets-room)
 
 start-count-requires : tie.Need-start-count-requires Inv-loop μ-loop
 start-count-requires c κs =
-    let s = c .before .before .before .before .before .before .before .before in
-    let a = s .args in (
+    let s = c .before .before .before .before .before .before .before in
+    let a = s .args in
+    let l = c .before .loop in (
       s .pre .0,
       (
         rights-of (a .book .now) (a .tape .now) (a .rows .now) (a .sets .now) (a .scratch .now) (s .pre .1),
-        (omega arith, s .pre .1 .tape-fits, c .before .before .loop .inv .left .is),
+        (l .inv .within, s .pre .1 .tape-fits, l .inv .left .is),
       ),
     )
 
 add-n : tie.Need-add-n Inv-loop μ-loop
 add-n c =
+    let s = c .before .before .before .before .before .before .before .before in
+    let a = s .args in
+    let l = c .before .before .loop in
+    let low = total-low (a .book .now) (a .tape .now) (a .rows .now) (a .sets .now) (a .scratch .now) (s .pre .1) (l .n) (l .k) (l .i) (l .inv)
+    (c .start-count .result) (c .start-count .ensures) in
+    omega (arith, low, account-most (bookOf (a .book .now)) (s .pre .0 .tests .sound) (a .tape .now) (s .pre .1 .tape-fits))
+
+returns : tie.Need-returns Inv-loop μ-loop
+returns c =
     let s = c .before .before .before .before .before .before .before .before .before in
     let a = s .args in
     let l = c .before .before .before .loop in
-    let h : l .i < length (a .tape .now) = c .before .before .loop-test .taken in
-    let low = total-low (a .book .now) (a .tape .now) (a .rows .now) (a .sets .now) (a .scratch .now) (s .pre .1) (l .n) (l .k) (l .i) (l .inv)
-    (c .start-count .result) h (c .start-count .ensures) in
-    omega (arith, low, account-most (bookOf (a .book .now)) (s .pre .0 .tests .sound) (a .tape .now) (s .pre .1 .tape-fits))
+    let r = c .before .start-count in
+    total-end (a .book .now) (a .tape .now) (a .rows .now) (a .sets .now) (a .scratch .now) (s .pre .1) (l .n) (l .k) (l .i) (l .inv)
+    (r .result) (r .ensures) (omega (arith, c .if1 .taken))
 
 shared-slice-read-left-entry : tie.Need-shared-slice-read-left-entry Inv-loop μ-loop
-shared-slice-read-left-entry c = search needs
+shared-slice-read-left-entry c =
+    omega (arith, c .before .before .before .before .loop .inv .within, c .before .if1 .left)
 
 left-entry-requires : tie.Need-left-entry-requires Inv-loop μ-loop
 left-entry-requires c κs =
     let s = c .before .before .before .before .before .before .before .before .before .before in
     let l = c .before .before .before .before .loop in
-    let h : l .i < length (s .args .tape .now) = c .before .before .before .loop-test .taken in
+    let h : l .i < length (s .args .tape .now) = omega (arith, l .inv .within, c .before .if1 .left) in
     (omega (arith, l .inv .left .below, s .pre .1 .few), s .pre .1 .symbols (l .i) h, s .pre .1 .rows-room)
 
 add-i : tie.Need-add-i Inv-loop μ-loop
-add-i c = search needs
+add-i c =
+    let s = c .before .before .before .before .before .before .before .before .before .before .before in
+    omega (arith, c .before .before .before .before .before .loop .inv .within, s .pre .1 .tape-fits)
 
 loop-less : tie.Need-loop-less Inv-loop μ-loop
-loop-less c = search needs
+loop-less c =
+    omega (arith, c .before .before .before .before .before .loop .inv .within, c .before .before .if1 .left)
 
 loop-again : tie.Need-loop-again Inv-loop μ-loop
 loop-again c =
     let s = c .before .before .before .before .before .before .before .before .before .before .before in
     let a = s .args in
     let l = c .before .before .before .before .before .loop in
-    let r = c .before .before .start-count in
-    let h : l .i < length (a .tape .now) = c .before .before .before .before .loop-test .taken in
-    total-turn (a .book .now) (a .tape .now) (a .rows .now) (a .sets .now) (a .scratch .now) (s .pre .1) (l .n) (l .k) (l .i) (l .inv) (r .result)
-    (c .left-entry .result) h (r .ensures) (c .left-entry .ensures)
-
-returns : tie.Need-returns Inv-loop μ-loop
-returns c =
-    let s = c .before .before .before .before .before .before .before in
-    let a = s .args in
-    let l = c .before .loop in
-    total-end (a .book .now) (a .tape .now) (a .rows .now) (a .sets .now) (a .scratch .now) (s .pre .1) (l .n) (l .k) (l .i) (l .inv) (omega arith)
+    let r = c .before .before .before .start-count in
+    let h : l .i < length (a .tape .now) = omega (arith, l .inv .within, c .before .before .if1 .left) in
+    total-turn (a .book .now) (a .tape .now) (a .rows .now) (a .sets .now) (a .scratch .now) (s .pre .1) (l .n) (l .k) (l .i) (l .inv)
+    (r .result) (r .ensures) (c .left-entry .result) h (c .left-entry .ensures)
 
 pub count-spec : {M : Type 1} → statement M
 count-spec =
@@ -96,9 +102,9 @@ count-spec =
     shared-slice-read-start-count
     start-count-requires
     add-n
+    returns
     shared-slice-read-left-entry
     left-entry-requires
     add-i
     loop-less
-    loop-again
-    returns)
+    loop-again)

@@ -32,76 +32,80 @@ mul-left c = search needs
 
 shared-slice-read-left : tie.Need-shared-slice-read-left Inv-loop μ-loop
 shared-slice-read-left c =
-    let s = c .before .before .before .before .before .before .before .before .before in
-    omega (arith, c .before .before .loop .inv .0 .left .below, s .pre .1 .0 .few, s .pre .1 .0 .sets-room)
+    let s = c .before .before .before .before .before .before .before .before in
+    omega (arith, c .before .loop .inv .0 .left .below, s .pre .1 .0 .few, s .pre .1 .0 .sets-room)
 
 deciding-at-requires : tie.Need-deciding-at-requires Inv-loop μ-loop
 deciding-at-requires c κs =
-    let s = c .before .before .before .before .before .before .before .before .before .before .before in
-    let a = s .args in (
+    let s = c .before .before .before .before .before .before .before .before .before .before in
+    let a = s .args in
+    let l = c .before .before .before .loop in (
       s .pre .0,
       (
         rights-of (a .book .now) (a .tape .now) (a .rows .now) (a .sets .now) (a .scratch .now) (s .pre .1 .0),
-        ((omega arith, c .before .before .before .before .loop .inv .0 .left .is), c .before .before .before .before .loop .inv .1),
+        ((l .inv .0 .within, l .inv .0 .left .is), l .inv .1),
       ),
     )
 
 lines-at-requires : tie.Need-lines-at-requires Inv-loop μ-loop
 lines-at-requires c κs =
-    let s = c .before .before .before .before .before .before .before .before .before .before .before .before .before in
+    let s = c .before .before .before .before .before .before .before .before .before .before .before .before in
     let a = s .args in
-    let l = c .before .before .before .before .before .before .loop in
+    let l = c .before .before .before .before .before .loop in
     let d = c .before .deciding-at in
-    let h : l .i < length (a .tape .now) = c .before .before .before .before .before .loop-test .taken in
     let seen = rights-of (a .book .now) (a .tape .now) (a .rows .now) (a .sets .now) (a .scratch .now) (s .pre .1 .0) in
     let decides = deciding-here (a .book .now) (a .tape .now) (a .rows .now) (a .sets .now) (a .scratch .now) (a .lines .now) (s .pre .1 .0) (l .lines) (l .at)
     (l .d) (l .k) (l .i) (l .inv .0) (d .result) (d .ensures .0) in
     let room = accounting-room (a .book .now) (a .tape .now) (a .rows .now) (a .sets .now) (a .scratch .now) (a .lines .now) (s .pre .1 .0) (l .lines) (l .at)
-    (l .d) (l .k) (l .i) (l .inv .0) (d .result) (d .ensures .0) h in
-    (s .pre .0, (seen, ((omega arith, l .inv .0 .left .is), ((s .pre .1 .0 .tape-fits, decides), room))))
-
-shared-slice-read-left-entry : tie.Need-shared-slice-read-left-entry Inv-loop μ-loop
-shared-slice-read-left-entry c = search needs
-
-left-entry-requires : tie.Need-left-entry-requires Inv-loop μ-loop
-left-entry-requires c κs =
-    let s = c .before .before .before .before .before .before .before .before .before .before .before .before .before .before .before .before .before in
-    let l = c .before .before .before .before .before .before .before .before .before .before .loop in
-    let h : l .i < length (s .args .tape .now) = c .before .before .before .before .before .before .before .before .before .loop-test .taken in
-    (omega (arith, l .inv .0 .left .below, s .pre .1 .0 .few), s .pre .1 .0 .symbols (l .i) h, s .pre .1 .0 .rows-room)
-
-add-i : tie.Need-add-i Inv-loop μ-loop
-add-i c =
-    let s = c .before .before .before .before .before .before .before .before .before .before .before .before .before .before .before .before .before .before in
-    omega (arith, c .before .before .before .before .before .before .before .before .before .before .loop-test .taken, s .pre .1 .0 .tape-fits)
-
-loop-less : tie.Need-loop-less Inv-loop μ-loop
-loop-less c = search needs
-
-loop-again : tie.Need-loop-again Inv-loop μ-loop
-loop-again c =
-    let s = c .before .before .before .before .before .before .before .before .before .before .before .before .before .before .before .before .before .before in
-    let a = s .args in
-    let l = c .before .before .before .before .before .before .before .before .before .before .before .loop in
-    let d = c .before .before .before .before .before .before .deciding-at in
-    let u = c .before .before .before .before .lines-at in
-    let h : l .i < length (a .tape .now) = c .before .before .before .before .before .before .before .before .before .before .loop-test .taken in (
-      accounting-turn (a .book .now) (a .tape .now) (a .rows .now) (a .sets .now) (a .scratch .now) (a .lines .now) (s .pre .1 .0) (l .lines) (l .at) (l .d)
-          (l .k) (l .i) (l .inv .0) (d .result) (d .ensures .0) h (u .result) (c .left-entry .result) (u .last .1 .1 .1 .1 .1 .1 .1 .1 .1 .1 .0) (u .ensures)
-          (c .left-entry .ensures),
-      d .ensures .1,
-    )
+    (l .d) (l .k) (l .i) (l .inv .0) (d .result) (d .ensures .0) in
+    (s .pre .0, (seen, ((l .inv .0 .within, l .inv .0 .left .is), ((s .pre .1 .0 .tape-fits, decides), room))))
 
 same-length : tie.Need-same-length Inv-loop μ-loop
 same-length c = search needs
 
 returns : tie.Need-returns Inv-loop μ-loop
 returns c =
-    let s = c .before .before .before .before .before .before .before .before in
+    let s = c .before .before .before .before .before .before .before .before .before .before .before .before .before .before .before .before in
     let a = s .args in
-    let l = c .before .loop in
-    accounting-end (a .book .now) (a .tape .now) (a .rows .now) (a .sets .now) (a .scratch .now) (a .lines .now) (s .pre .1 .0) (l .lines) (l .at) (l .d) (l .k)
-    (l .i) (l .inv .0) (omega arith)
+    let l = c .before .before .before .before .before .before .before .before .before .loop in
+    let d = c .before .before .before .before .before .deciding-at in
+    let u = c .before .before .before .lines-at in
+    accounting-end (a .book .now) (a .tape .now) (a .rows .now) (a .sets .now) (a .scratch .now) (a .lines .now) (s .pre .1 .0) (l .lines) (l .at) (l .d)
+    (l .k) (l .i) (l .inv .0) (d .result) (d .ensures .0) (u .result) (u .last .1 .1 .1 .1 .1 .1 .1 .1 .1 .1 .0) (u .ensures) (omega (arith, c .if1 .taken))
+
+shared-slice-read-left-entry : tie.Need-shared-slice-read-left-entry Inv-loop μ-loop
+shared-slice-read-left-entry c =
+    omega (arith, c .before .before .before .before .before .before .before .before .before .before .loop .inv .0 .within, c .before .if1 .left)
+
+left-entry-requires : tie.Need-left-entry-requires Inv-loop μ-loop
+left-entry-requires c κs =
+    let s = c .before .before .before .before .before .before .before .before .before .before .before .before .before .before .before .before .before in
+    let l = c .before .before .before .before .before .before .before .before .before .before .loop in
+    let h : l .i < length (s .args .tape .now) = omega (arith, l .inv .0 .within, c .before .if1 .left) in
+    (omega (arith, l .inv .0 .left .below, s .pre .1 .0 .few), s .pre .1 .0 .symbols (l .i) h, s .pre .1 .0 .rows-room)
+
+add-i : tie.Need-add-i Inv-loop μ-loop
+add-i c =
+    let s = c .before .before .before .before .before .before .before .before .before .before .before .before .before .before .before .before .before .before in
+    omega (arith, c .before .before .before .before .before .before .before .before .before .before .before .loop .inv .0 .within, s .pre .1 .0 .tape-fits)
+
+loop-less : tie.Need-loop-less Inv-loop μ-loop
+loop-less c =
+    omega (arith, c .before .before .before .before .before .before .before .before .before .before .before .loop .inv .0 .within, c .before .before .if1 .left)
+
+loop-again : tie.Need-loop-again Inv-loop μ-loop
+loop-again c =
+    let s = c .before .before .before .before .before .before .before .before .before .before .before .before .before .before .before .before .before .before in
+    let a = s .args in
+    let l = c .before .before .before .before .before .before .before .before .before .before .before .loop in
+    let d = c .before .before .before .before .before .before .before .deciding-at in
+    let u = c .before .before .before .before .before .lines-at in
+    let h : l .i < length (a .tape .now) = omega (arith, l .inv .0 .within, c .before .before .if1 .left) in (
+      accounting-turn (a .book .now) (a .tape .now) (a .rows .now) (a .sets .now) (a .scratch .now) (a .lines .now) (s .pre .1 .0) (l .lines) (l .at) (l .d)
+          (l .k) (l .i) (l .inv .0) (d .result) (d .ensures .0) (u .result) (u .last .1 .1 .1 .1 .1 .1 .1 .1 .1 .1 .0) (u .ensures) h
+          (c .left-entry .result) (c .left-entry .ensures),
+      d .ensures .1,
+    )
 
 pub write-lines-spec : {M : Type 1} → statement M
 write-lines-spec =
@@ -114,10 +118,10 @@ write-lines-spec =
     shared-slice-read-left
     deciding-at-requires
     lines-at-requires
+    same-length
+    returns
     shared-slice-read-left-entry
     left-entry-requires
     add-i
     loop-less
-    loop-again
-    same-length
-    returns)
+    loop-again)

@@ -6,8 +6,8 @@ use Rattle.output.proofs.Marks.{word-put}
 use Rattle.output.proofs.words.put_word.Statement.{statement}
 use Rattle.output.proofs.words.put_word.Tie as tie
 
-sub-last : tie.Need-sub-last
-sub-last c = search needs
+last-position-requires : tie.Need-last-position-requires
+last-position-requires c κs = search needs
 
 put-symbols-requires : tie.Need-put-symbols-requires
 put-symbols-requires c κs = search needs
@@ -23,13 +23,14 @@ same-length-2 c = search needs
 
 returns : tie.Need-returns
 returns c =
-    let s = c .before .before .before .before .before .before .before .before .before .before .before .before .before .before in
+    let s = c .before .before .before .before .before .before .before .before .before .before .before .before .before .before .before in
     let a = s .args in
     let symbols = c .before .before .before .before .before .before .before .before .put-symbols in
+    let last = c .before .before .before .before .before .before .before .before .before .before .before .last-position in
     word-put (wordAt (a .book .now) (a .from)) (a .start) (a .stop) (a .at) (a .out .now) (a .origins .now) (symbols .result) _ _ _
-    (symbols .ensures) (c .before .before .put-last .ensures) (omega arith) (omega (arith, s .pre .1 .0)) (s .pre .1 .1 .1)
+    (symbols .ensures) (c .before .before .put-last .ensures) (omega arith) (omega (arith, last .ensures)) (s .pre .1 .1 .1)
 
 pub put-word-spec : {M : Type 1} → statement M
 put-word-spec =
     tie.close
-    (tie.spec sub-last put-symbols-requires put-last-requires same-length same-length-2 returns)
+    (tie.spec last-position-requires put-symbols-requires put-last-requires same-length same-length-2 returns)

@@ -1,7 +1,7 @@
 -- `rewriter::shown::bounds_of` meets its contract: each return is a case of `boundsOf`. Assumes nothing.
 use native.Mathlib.Omega.{arith}
 use borrow.Author.Needs.{needs}
-use Rattle.rewriter.proofs.Showing.{bounds-short, bounds-empty, bounds-past, bounds-stretch}
+use Rattle.rewriter.proofs.Showing.{bounds-short, bounds-crossed, bounds-past, bounds-stretch}
 use Rattle.rewriter.proofs.shown.bounds_of.Statement.{statement}
 use Rattle.rewriter.proofs.shown.bounds_of.Tie as tie
 
@@ -42,7 +42,7 @@ returns-2 c =
     let s = c .before .before .before .before .before .before .before in
     let wide = c .before .before .before .wide in
     let a = s .args in (
-      bounds-empty (a .n) (a .lines .now) (a .line) (wide .result) (c .before .wide2 .result) (omega arith) (wide .ensures) (c .before .wide2 .ensures)
+      bounds-crossed (a .n) (a .lines .now) (a .line) (wide .result) (c .before .wide2 .result) (omega arith) (wide .ensures) (c .before .wide2 .ensures)
           (omega arith),
       (omega arith, omega arith),
     )

@@ -12,11 +12,11 @@ use Rattle.stretches.proofs.walk.taken_at.Statement.{statement}
 use Rattle.stretches.proofs.walk.taken_at.Tie as tie
 
 abbrev Inv-loop : tie.InvT-loop
-Inv-loop book places masks rules tape sets scratch from left steps₀ symbols₀ set₀ end₀ rule₀ j₀ steps symbols set end rule j =
+Inv-loop book places masks rules tape sets scratch from left steps₀ symbols₀ here set₀ end₀ rule₀ j₀ steps symbols set end rule j =
     Scanned (bookOf book) tape from j set end rule × Remembers (bookOf book) steps symbols
 
 abbrev μ-loop : tie.MeasureT-loop
-μ-loop book places masks rules tape sets scratch from left steps₀ symbols₀ set₀ end₀ rule₀ j₀ steps symbols set end rule j =
+μ-loop book places masks rules tape sets scratch from left steps₀ symbols₀ here set₀ end₀ rule₀ j₀ steps symbols set end rule j =
     length tape - j
 
 right-set-requires : tie.Need-right-set-requires Inv-loop μ-loop
@@ -28,19 +28,25 @@ first-set-requires : tie.Need-first-set-requires Inv-loop μ-loop
 first-set-requires c κs =
     c .before .before .before .before .before .pre .0 .tests
 
+rule-hit-requires : tie.Need-rule-hit-requires Inv-loop μ-loop
+rule-hit-requires c κs =
+    c .before .before .before .before .before .before .pre .0 .tests
+
 loop-holds : tie.Need-loop-holds Inv-loop μ-loop
 loop-holds c =
-    let s = c .before .before .before .before .before .before in
+    let s = c .before .before .before .before .before .before .before in
     let a = s .args in
-    let R = c .before .right-set in (
-      walk-start (a .book .now) (a .tape .now) (a .sets .now) (a .scratch .now) (s .pre .1 .0) (a .from) (a .left) (R .result) (c .first-set .result)
-          (s .pre .1 .1 .0 .0) (s .pre .1 .1 .0 .1) (R .ensures) (c .first-set .ensures),
+    let R = c .before .before .right-set in
+    let F = c .before .first-set in
+    let r = c .rule-hit in (
+      walk-start (a .book .now) (a .tape .now) (a .sets .now) (a .scratch .now) (s .pre .1 .0) (a .from) (a .left) (R .result) (F .result) (r .result)
+          (s .pre .1 .1 .0 .0) (s .pre .1 .1 .0 .1) (R .ensures) (F .ensures) (r .ensures),
       s .pre .1 .1 .1,
     )
 
 returns : tie.Need-returns Inv-loop μ-loop
 returns c =
-    let s = c .before .before .before .before .before .before .before .before .before in
+    let s = c .before .before .before .before .before .before .before .before .before .before in
     let a = s .args in
     let l = c .before .before .loop in (
       walk-dead (a .book .now) (a .tape .now) (a .sets .now) (a .scratch .now) (s .pre .1 .0) (a .from) (l .j) (l .set) (l .end) (l .rule) (l .inv .0)
@@ -53,7 +59,7 @@ add-right-set c = search needs
 
 right-set-requires-2 : tie.Need-right-set-requires-2 Inv-loop μ-loop
 right-set-requires-2 c κs =
-    let s = c .before .before .before .before .before .before .before .before .before in
+    let s = c .before .before .before .before .before .before .before .before .before .before in
     (omega (arith, s .pre .1 .0 .scratch-room), s .pre .1 .0 .sets-room)
 
 shared-slice-read-remembered : tie.Need-shared-slice-read-remembered Inv-loop μ-loop
@@ -61,27 +67,29 @@ shared-slice-read-remembered c = search needs
 
 remembered-requires : tie.Need-remembered-requires Inv-loop μ-loop
 remembered-requires c κs =
-    let s = c .before .before .before .before .before .before .before .before .before .before .before .before .before in
+    let s = c .before .before .before .before .before .before .before .before .before .before .before .before .before .before in
     (s .pre .1 .0 .accepted, (s .pre .0 .placed, c .before .before .before .before .before .before .loop .inv .1))
 
 add-j : tie.Need-add-j Inv-loop μ-loop
-add-j c = search needs
+add-j c =
+    let s = c .before .before .before .before .before .before .before .before .before .before .before .before .before .before .before in
+    omega (arith, c .before .before .before .before .before .before .loop-test .taken, s .good)
 
-rule-hit-requires : tie.Need-rule-hit-requires Inv-loop μ-loop
-rule-hit-requires c κs =
-    c .before .before .before .before .before .before .before .before .before .before .before .before .before .before .pre .0 .tests
+rule-hit-requires-2 : tie.Need-rule-hit-requires-2 Inv-loop μ-loop
+rule-hit-requires-2 c κs =
+    c .before .before .before .before .before .before .before .before .before .before .before .before .before .before .before .pre .0 .tests
 
 loop-less : tie.Need-loop-less Inv-loop μ-loop
 loop-less c = search needs
 
 loop-again : tie.Need-loop-again Inv-loop μ-loop
 loop-again c =
-    let s = c .before .before .before .before .before .before .before .before .before .before .before .before .before .before .before .before in
+    let s = c .before .before .before .before .before .before .before .before .before .before .before .before .before .before .before .before .before in
     let a = s .args in
     let l = c .before .before .before .before .before .before .before .before .before .loop in
     let R = c .before .before .before .before .before .before .right-set2 in
     let x = c .before .before .remembered in
-    let r = c .before .rule-hit in
+    let r = c .before .rule-hit2 in
     let X = step-pruned (a .book .now) (s .pre .1 .0 .accepted) (l .set) _ (R .result) (x .result) (x .ensures .0) in (
       walk-hit (a .book .now) (a .tape .now) (a .sets .now) (a .scratch .now) (s .pre .1 .0) (a .from) (l .j) (l .set) (l .end) (l .rule) (l .inv .0)
           (c .before .before .before .before .before .before .before .before .loop-test .taken) (R .result) _ (r .result) (R .ensures) X (r .ensures)
@@ -94,12 +102,12 @@ loop-less-2 c = search needs
 
 loop-again-2 : tie.Need-loop-again-2 Inv-loop μ-loop
 loop-again-2 c =
-    let s = c .before .before .before .before .before .before .before .before .before .before .before .before .before .before .before .before in
+    let s = c .before .before .before .before .before .before .before .before .before .before .before .before .before .before .before .before .before in
     let a = s .args in
     let l = c .before .before .before .before .before .before .before .before .before .loop in
     let R = c .before .before .before .before .before .before .right-set2 in
     let x = c .before .before .remembered in
-    let r = c .before .rule-hit in
+    let r = c .before .rule-hit2 in
     let X = step-pruned (a .book .now) (s .pre .1 .0 .accepted) (l .set) _ (R .result) (x .result) (x .ensures .0) in (
       walk-miss (a .book .now) (a .tape .now) (a .sets .now) (a .scratch .now) (s .pre .1 .0) (a .from) (l .j) (l .set) (l .end) (l .rule) (l .inv .0)
           (c .before .before .before .before .before .before .before .before .loop-test .taken) (R .result) _ (r .result) (R .ensures) X (r .ensures)
@@ -109,7 +117,7 @@ loop-again-2 c =
 
 returns-2 : tie.Need-returns-2 Inv-loop μ-loop
 returns-2 c =
-    let s = c .before .before .before .before .before .before .before .before in
+    let s = c .before .before .before .before .before .before .before .before .before in
     let a = s .args in
     let l = c .before .loop in (
       walk-end (a .book .now) (a .tape .now) (a .sets .now) (a .scratch .now) (s .pre .1 .0) (a .from) (l .j) (l .set) (l .end) (l .rule) (l .inv .0)
@@ -125,6 +133,7 @@ taken-at-spec =
     μ-loop
     right-set-requires
     first-set-requires
+    rule-hit-requires
     loop-holds
     returns
     add-right-set
@@ -132,7 +141,7 @@ taken-at-spec =
     shared-slice-read-remembered
     remembered-requires
     add-j
-    rule-hit-requires
+    rule-hit-requires-2
     loop-less
     loop-again
     loop-less-2
