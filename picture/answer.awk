@@ -1,13 +1,13 @@
 # Reads the program's answer for one tape: W, O and a C line a candidate; or X; or W, O and X. An answer that cannot be
 # laid out over this tape is refused, and no page is written; so is one whose C lines do not agree on what was taken, since
 # then the page could not say which rule won, or whose origins do not agree with them, since then it could not say what
-# replaced a stretch.
+# replaced a stretch or was put in.
 
 BEGIN {
   LINE_WORDS = 6 # rule, start, end, verdict, deciding start, deciding rule
   tape = ENVIRON["TAPE"] ""
   tape_length = length(tape)
-  origins = candidates = 0
+  origins = candidates = empty_candidates = 0
 }
 
 function fail(message) {
@@ -31,7 +31,10 @@ NR == 1 && $0 ~ "^W [0-9]+ [0-9]+ [" DIGITS "]+$" || NR == 1 && /^W 0 [0-9]+ -$/
 NR == 2 && given_output && $0 == "O -" { next }
 
 NR == 2 && given_output && /^O [0-9 ]+$/ {
-  for (i = 2; i <= NF; i++) origin[i - 2] = $i + 0
+  for (i = 2; i <= NF; i++) {
+    origin[i - 2] = $i + 0
+    word_from[$i + 0] = word_from[$i + 0] substr(output, i - 1, 1)
+  }
   origins = NF - 1
   next
 }
@@ -44,10 +47,11 @@ NR > 2 && given_output && !refused && /^C( [0-9]+)+$/ && NF == 1 + LINE_WORDS &&
   verdict[candidates] = $5 + 0
   deciding_start[candidates] = $6 + 0
   deciding_rule[candidates] = $7 + 0 # which rule won, wherever the page names it
-  if ($3 + 0 >= $4 + 0 || $4 + 0 > tape_length) fail_line("the stretch is not one of this tape")
+  if ($3 + 0 > $4 + 0 || $4 + 0 > tape_length) fail_line("the stretch is not one of this tape")
   if ($5 == 0 && $6 + 0 != $3 + 0) fail_line("it is taken, and its deciding start is not its own")
   if ($5 == 0 && $7 + 0 != $2 + 0) fail_line("it is taken, and its deciding rule is not its own")
   if ($5 == 0) take(candidates)
+  if (is_empty(candidates)) empty_candidates++
   candidates++
   next
 }
@@ -61,13 +65,25 @@ NR > 2 && given_output && !refused && /^C( [0-9]+)+$/ && NF == 1 + LINE_WORDS &&
 
 { fail_line("it is not what the program prints here") }
 
-# Gives each position of a taken stretch its line. Taken stretches never overlap, so a position has one line at most.
+# Gives its line to the start of a taken stretch and to each position that it replaces; an empty one replaces none. Taken
+# stretches never overlap, an empty one lies inside none, and "no start is taken twice" (document 02, No. 5), so a start and
+# a position have one line at most.
 function take(line,    i) {
-  for (i = start[line]; i < end[line]; i++) {
-    if (i in taken_line) fail_line("it is taken, and so is position " i " by an earlier line")
-    taken_line[i] = line
-  }
+  check_free(start[line])
+  for (i = start[line] + 1; i < end[line]; i++) check_free(i)
+  taken_from[start[line]] = line
+  for (i = start[line]; i < end[line]; i++) taken_line[i] = line
 }
+
+function check_free(at) {
+  if (at in taken_from) fail_line("it is taken, and so is start " at " by an earlier line")
+  if (at in taken_line) fail_line("it is taken, and so is position " at " by an earlier line")
+}
+
+function is_empty(line) { return start[line] == end[line] }
+
+# whether an empty stretch is taken at a position, or at the tape's end
+function put_in_at(at) { return (at in taken_from) && is_empty(taken_from[at]) }
 
 # the answer as a whole, once it has been read
 function check_answer(    i) {
@@ -76,20 +92,24 @@ function check_answer(    i) {
   if (output_length != length(output) || output_length != origins) fail("W and O do not agree")
   for (i = 0; i < candidates; i++) check_deciding(deciding_start[i], deciding_rule[i])
   for (i = 0; i < origins; i++) check_origin(i)
+  if (refused) return
+  for (i = 0; i < tape_length; i++) check_kept(i)
 }
 
 # what a line says of the deciding stretch, beside the line that was taken there
 function check_deciding(at, by) {
-  if (!(at in taken_line) || start[taken_line[at]] != at) fail("no line is taken at start " at)
-  if (rule[taken_line[at]] != by)
-    fail("the line taken at start " at " is of rule " rule[taken_line[at]] ", not of rule " by)
+  if (!(at in taken_from)) fail("no line is taken at start " at)
+  if (rule[taken_from[at]] != by)
+    fail("the line taken at start " at " is of rule " rule[taken_from[at]] ", not of rule " by)
 }
 
 # The origin of an output symbol, beside the one before it and the taken stretch that it lies in. Document 02, No. 4: "When
 # a replacement has two or more symbols, the last one's origin is the last position of the stretch; the others keep the
-# start."
+# start." No. 5: "Every origin of an inserted word is its position, n at the tape's end." Without an account nothing says
+# whether a word was inserted there.
 function check_origin(i,    line, due) {
-  if (origin[i] >= tape_length) fail("an origin is outside this tape")
+  if (origin[i] > tape_length || origin[i] == tape_length && !put_in_at(tape_length) && !refused)
+    fail("an origin is outside this tape")
   if (i > 0 && origin[i] < origin[i - 1]) fail("the origins fall from " origin[i - 1] " to " origin[i])
   line = replaced_line(i)
   if (line < 0) return
@@ -98,18 +118,40 @@ function check_origin(i,    line, due) {
     fail("output position " i " is from " origin[i] ", not from " due ", for " positions_word(start[line], end[line]))
 }
 
-# The taken line whose stretch an output symbol replaces: the one that its origin lies in. -1 for a kept symbol, whose own
-# position is never taken, and beyond the output.
+# What the output has from a position that no taken stretch replaces. Document 02, No. 5: "the word is written and the
+# symbol at that position is kept"; so that symbol is the last one from there, and the only one where nothing is put in.
+function check_kept(at,    from) {
+  if (at in taken_line) return
+  from = word_from[at]
+  if (from == "") fail("the output has nothing from position " at ", which is kept")
+  if (substr(from, length(from)) != symbol_at(at))
+    fail("the last output symbol from position " at " is " substr(from, length(from)) ", not the kept " symbol_at(at))
+  if (length(from) > 1 && !put_in_at(at)) fail("the output has more than the kept symbol from position " at)
+}
+
+# The taken line whose stretch an output symbol replaces: the one that its origin lies in. -1 for a symbol that is kept or
+# put in, whose own position is never replaced, and beyond the output.
 function replaced_line(i) { return (i in origin) && (origin[i] in taken_line) ? taken_line[origin[i]] : -1 }
 
-# The symbols that replace each taken stretch, with the origins of the first and of the last one.
-function read_replacements(    i, line) {
+# The taken line of an empty stretch whose word an output symbol is of. -1 for every other symbol: also for the last one
+# from its position, which is the kept one; but at the tape's end nothing is kept.
+function inserted_line(i) {
+  if (!put_in_at(origin[i])) return -1
+  if (origin[i] < tape_length && !(((i + 1) in origin) && origin[i + 1] == origin[i])) return -1
+  return taken_from[origin[i]]
+}
+
+# the taken line that wrote an output symbol; -1 for a kept one
+function written_line(i) { return replaced_line(i) < 0 ? inserted_line(i) : replaced_line(i) }
+
+# The word of each taken line, with the origins of its first and of its last symbol.
+function read_words(    i, line) {
   for (i = 0; i < origins; i++) {
-    line = replaced_line(i)
+    line = written_line(i)
     if (line < 0) continue
-    if (!(line in replacement)) first_origin[line] = origin[i]
+    if (!(line in written)) first_origin[line] = origin[i]
     last_origin[line] = origin[i]
-    replacement[line] = replacement[line] substr(output, i + 1, 1)
+    written[line] = written[line] substr(output, i + 1, 1)
   }
 }
 

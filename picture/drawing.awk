@@ -2,6 +2,10 @@
 # and on a wide screen, one under the other on a phone. A bar is cut where its row ends. What has the class phone is seen on
 # a phone only, and what has the class wide everywhere else.
 #
+# What an empty stretch puts in is round: a pin between two cells of the tape, a narrow bar under it with its words beside
+# it, and cells of the output. Pin and bar stand before the cell of their position, in that cell's row; at the tape's end
+# they stand after the last cell, and the words before them.
+#
 #       0         1         2         3         4    | 5   ...   9       position
 #   +---------+---------+---------+---------+--------|-
 #   |    1    |    2    |    4    |    0    |    0   |                  TOP to TOP + BOX
@@ -11,6 +15,8 @@
 #             [ taken             ]                  |
 #             [ rule 2 finish     ]                  |                  one more lane
 #             [ rule 0 comes first]                  |
+#                                () rule 3           |                  an empty stretch between 2 and 3
+#                                () inside           |
 
 BEGIN {
   HALF = 5
@@ -20,13 +26,14 @@ BEGIN {
   BOX = 42
   LANE = 36
   BAR = 32
+  PILL = 6 # width of an empty stretch's bar; the bars beside it leave it 8
 }
 
 function smaller(a, b) { return a < b ? a : b }
 function larger(a, b) { return a > b ? a : b }
 
 function svg_open(first, after, height, what) {
-  print "<svg role=\"img\" aria-label=\"" what ", " positions_word(first, after) "\" width=\"" (after - first) * CELL \
+  print "<svg role=\"img\" aria-label=\"" what "\" width=\"" (after - first) * CELL \
     "\" height=\"" height "\" viewBox=\"0 0 " (after - first) * CELL " " height "\">"
 }
 
@@ -34,8 +41,10 @@ function text_at(x, y, kind, words) {
   return "<text" (kind == "" ? "" : " class=\"" kind "\"") " x=\"" x "\" y=\"" y "\">" words "</text>"
 }
 
-function rect_at(x, y, width, height) {
-  return "<rect x=\"" x "\" y=\"" y "\" width=\"" width "\" height=\"" height "\"/>"
+# round is the radius of its corners, or empty
+function rect_at(x, y, width, height, round) {
+  return "<rect x=\"" x "\" y=\"" y "\" width=\"" width "\" height=\"" height "\"" \
+    (round == "" ? "" : " rx=\"" round "\"") "/>"
 }
 
 # one cell; below is a text under it, or empty
@@ -43,7 +52,7 @@ function cell(x, position, c, kind, below,    middle, name) {
   middle = CELL / 2
   name = c in SYMBOL ? SYMBOL[c] : is_symbol(c) ? "" : "bad"
   print "<g class=\"cell" kind (is_symbol(c) ? "" : " bad") "\" transform=\"translate(" x " 0)\">" \
-    rect_at(2, TOP, CELL - 4, BOX) \
+    rect_at(2, TOP, CELL - 4, BOX, kind == " inserted" ? BOX / 2 : "") \
     (is_symbol(c) ? "" : "<path d=\"M2 " TOP + 10 "v-10h10M" CELL - 12 " " TOP + BOX "h10v-10\"/>") \
     text_at(middle, 11, "at", position) \
     text_at(middle, TOP + (name == "" ? 27 : 19), "digit", c in UNSEEN ? UNSEEN[c] : escaped(c)) \
@@ -106,39 +115,70 @@ function bar(line, first, after, y,    from, upto, left, right, middle, both) {
   print "</g>"
 }
 
-function in_row(line, first, after) { return start[line] < after && end[line] > first }
+# The bar of an empty stretch, in the half that begins at first: it has no room for words inside.
+function narrow_bar(line, first, y,    x, at_end, beside) {
+  x = (start[line] - first) * CELL
+  at_end = room_from[line] < start[line]
+  beside = x + (at_end ? -8 : 8)
+  print "<g class=\"bar empty" (verdict[line] ? "" : " taken") (at_end ? " last" : "") "\">" \
+    rect_at(x - PILL / 2, y, PILL, BAR, PILL / 2) "<g class=\"narrow\">" \
+    text_at(beside, y + 13, "", short_rule(line, 1)) text_at(beside, y + 26, "", short_verdict(line, 1)) "</g></g>"
+}
 
-# Gives each candidate of a row its lane: the first one to the taken stretches, which never overlap; the next ones to the
-# others, each in the first lane where it has room. Answers the number of lanes.
-function give_lanes(first, after,    line, base, lanes, lane_end, n) {
-  base = 0
+# a pin in the gap between two cells, or at an end of the tape
+function pin(x) {
+  print "<g class=\"pin\"><path d=\"M" x " 8V" TOP + BOX + 4 "\"/><circle cx=\"" x "\" cy=\"8\" r=\"6\"/></g>"
+}
+
+# Gives each candidate the cells under which it is drawn, from room_from up to and not including room_upto. An empty one has
+# that of its position, for its words; at the tape's end it has the last one.
+function give_room(    line) {
   for (line = 0; line < candidates; line++) {
-    if (!in_row(line, first, after) || verdict[line] != 0) continue
-    lane[line] = 0
-    base = 1
+    room_from[line] = is_empty(line) ? smaller(start[line], larger(tape_length - 1, 0)) : start[line]
+    room_upto[line] = is_empty(line) ? room_from[line] + 1 : end[line]
   }
+}
+
+function in_row(line, first, after) { return room_from[line] < after && room_upto[line] > first }
+
+# Gives each candidate of a row its lane, those that are taken first. Answers the number of lanes.
+function give_lanes(first, after) { return fill_lanes(first, after, 0, fill_lanes(first, after, 1, 0)) }
+
+# Gives each candidate of a row that is taken, or each that is not, the first lane from base on where it has room. Answers
+# the number of lanes with these. Taken stretches never overlap and have one lane; but the words of one at the tape's end
+# may need another.
+function fill_lanes(first, after, taken, base,    line, lanes, lane_end, n) {
   lanes = base
   for (line = 0; line < candidates; line++) {
-    if (!in_row(line, first, after) || verdict[line] == 0) continue
-    for (n = base; n < lanes && lane_end[n] > start[line]; n++);
+    if (!in_row(line, first, after) || (verdict[line] == 0) != taken) continue
+    for (n = base; n < lanes && lane_end[n] > room_from[line]; n++);
     lane[line] = n
-    lane_end[n] = end[line]
+    lane_end[n] = room_upto[line]
     if (n == lanes) lanes++
   }
   return lanes
 }
 
-function tape_half(first, after, lanes,    i, line) {
-  svg_open(first, after, TOP + BOX + 4 + lanes * LANE, "tape")
-  for (i = first; i < after; i++) cell((i - first) * CELL, i, symbol_at(i), i in taken_line ? " taken" : "", "")
-  for (line = 0; line < candidates; line++)
-    if (in_row(line, first, after)) bar(line, first, after, TOP + BOX + 6 + lane[line] * LANE)
+function tape_half(first, after, lanes,    i, line, y, what) {
+  what = tape_length ? "tape, " positions_word(first, after) : "the empty tape"
+  svg_open(first, after, TOP + BOX + 4 + lanes * LANE, what)
+  for (i = first; i < after && i < tape_length; i++)
+    cell((i - first) * CELL, i, symbol_at(i), i in taken_line ? " taken" : "", "")
+  for (i = first; i < after || i == tape_length; i++) if (put_in_at(i)) pin((i - first) * CELL)
+  for (line = 0; line < candidates; line++) {
+    if (!in_row(line, first, after)) continue
+    y = TOP + BOX + 6 + lane[line] * LANE
+    if (is_empty(line)) narrow_bar(line, first, y)
+    else bar(line, first, after, y)
+  }
   print "</svg>"
 }
 
+# The empty tape has the room of one cell, for what is put in there.
 function draw_tape(    row, half, after, lanes) {
-  for (row = 0; row < tape_length; row += ROW) {
-    after = smaller(row + ROW, tape_length)
+  give_room()
+  for (row = 0; row < larger(tape_length, 1); row += ROW) {
+    after = smaller(row + ROW, larger(tape_length, 1))
     lanes = give_lanes(row, after)
     print "<div class=\"row\">"
     for (half = row; half < after; half += HALF) tape_half(half, smaller(half + HALF, after), lanes)
@@ -146,10 +186,11 @@ function draw_tape(    row, half, after, lanes) {
   }
 }
 
+function written_kind(i) { return replaced_line(i) >= 0 ? " taken" : inserted_line(i) >= 0 ? " inserted" : "" }
+
 function output_half(first, after,    i) {
-  svg_open(first, after, TOP + BOX + 20, "output")
-  for (i = first; i < after; i++)
-    cell((i - first) * CELL, i, substr(output, i + 1, 1), replaced_line(i) < 0 ? "" : " taken", "from " origin[i])
+  svg_open(first, after, TOP + BOX + 20, "output, " positions_word(first, after))
+  for (i = first; i < after; i++) cell((i - first) * CELL, i, substr(output, i + 1, 1), written_kind(i), "from " origin[i])
   print "</svg>"
 }
 

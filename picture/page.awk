@@ -6,6 +6,7 @@ BEGIN { LONGEST_TITLE = 24 }
 function print_style(    row) {
   print "<style>"
   while ((getline row < style) > 0) print row
+  if (empty_candidates) while ((getline row < inserted_style) > 0) print row
   print "</style>"
 }
 
@@ -38,10 +39,15 @@ function print_summary() {
   print "</p>"
 }
 
+# what only a page with an empty candidate has to explain
+function where_empty(words) { return empty_candidates ? "\n" words : "" }
+
 function print_key() {
   print "<p class=\"key\">Positions are counted from 0, and a stretch is named by the positions that belong to it, the"
   print "last one too: “positions 1 to 5” are the five cells 1, 2, 3, 4 and 5. Thick cells and black bars are taken; a"
-  print "dashed bar is a candidate that is not taken; a torn end goes on in the next row.</p>"
+  print "dashed bar is a candidate that is not taken; a torn end goes on in the next row." \
+    where_empty("A narrow bar, between two cells or at an end of the tape, is an empty stretch: its rule removes nothing" \
+      "\nand puts its word in there. A pin on the tape shows where one is taken.") "</p>"
 }
 
 function print_tape() {
@@ -55,8 +61,15 @@ function print_output() {
   if (output_length == 0) { print "<p>The output is empty.</p>"; return }
   print "<p class=\"key\">Under each symbol stands its origin: a kept symbol’s own position on the tape, or the start of"
   print "the stretch that was replaced" (candidates ? " (thick cells)" : "") ". Where two or more symbols replace a stretch,"
-  print "the last one’s origin is the stretch’s last position.</p>"
+  print "the last one’s origin is the stretch’s last position." inserted_key() "</p>"
   draw_output()
+}
+
+# Without an account only an origin at the tape's end tells that something was put in.
+function inserted_key() {
+  if (!empty_candidates && origin[output_length - 1] < tape_length) return ""
+  return "\nA symbol that was put in" (candidates ? " (round cells)" : "") \
+    " has the position that it was put in before, and " tape_length " at the tape’s end."
 }
 
 function print_account(    line) {
@@ -64,7 +77,8 @@ function print_account(    line) {
   if (!candidates) { print "<p>No rule has a candidate on this tape.</p>"; return }
   print "<p class=\"key\">Behind each sentence stands the program’s own line: rule, start, end, verdict, deciding start,"
   print "deciding rule. Its end is the position after the last one, so positions 1 to 5 stand there as 1 6; the deciding"
-  print "start and rule are those of the stretch that was taken.</p>\n<ul>"
+  print "start and rule are those of the stretch that was taken." \
+    where_empty("The end of an empty stretch is its start, so between positions 3 and 4 stands there as 4 4.") "</p>\n<ul>"
   for (line = 0; line < candidates; line++)
     print "<li" (verdict[line] ? "" : " class=\"taken\"") "><span>" sentence(line) "</span>" \
       " <code>" printed[line] "</code></li>"
@@ -74,11 +88,11 @@ function print_account(    line) {
 END {
   if (failed) exit 1
   check_answer()
-  read_replacements()
+  read_words()
   print_head()
   if (refused) print_refusal()
   print_summary()
-  if (tape_length > 0 && number != 9) print_tape()
+  if ((tape_length > 0 || candidates > 0) && number != 9) print_tape()
   if (given_output) print_output()
   if (given_output && !refused) print_account()
   print "<footer>Laid out from the program’s answer; nothing on this page was worked out anew.</footer>\n</body>\n</html>"

@@ -41,8 +41,17 @@ function count_word(n, one, many) {
   return n == 1 ? "1 " one : n " " (many == "" ? one "s" : many)
 }
 
+# the place of an empty stretch: between two positions, or at an end of the tape
+function between_word(at) {
+  if (tape_length == 0) return "on the empty tape"
+  if (at == 0) return "before position 0"
+  if (at == tape_length) return "after the last position"
+  return "between positions " (at - 1) " and " at
+}
+
 # the stretch from first up to and not including after, named by the positions that belong to it
 function positions_word(first, after) {
+  if (after == first) return between_word(first)
   if (after - first == 1) return "position " first
   return "positions " first (after - first == 2 ? " and " : " to ") (after - 1)
 }
@@ -61,11 +70,11 @@ function symbols_word(word,    i, run, groups, out) {
 }
 
 # the positions of the deciding stretch
-function deciding_positions(line) { return positions_word(deciding_start[line], end[taken_line[deciding_start[line]]]) }
+function deciding_positions(line) { return positions_word(deciding_start[line], end[taken_from[deciding_start[line]]]) }
 
-# what replaces a taken stretch; both times where its symbols have two
-function replacement_words(line,    word) {
-  word = replacement[line]
+# what a taken line writes; both times where its symbols have two
+function written_words(line,    word) {
+  word = written[line]
   if (first_origin[line] == last_origin[line]) return symbols_word(word)
   return symbols_word(substr(word, 1, length(word) - 1)) " from position " first_origin[line] " and " \
     symbols_word(substr(word, length(word))) " from position " last_origin[line]
@@ -74,15 +83,16 @@ function replacement_words(line,    word) {
 # document 01, "The account": one sentence a line
 function verdict_words(line,    by) {
   by = rule_word(deciding_rule[line])
-  if (verdict[line] == 0) return "taken, replaced by " replacement_words(line)
+  if (verdict[line] == 0 && is_empty(line)) return "taken, " written_words(line) " put in"
+  if (verdict[line] == 0) return "taken, replaced by " written_words(line)
   if (verdict[line] == 1) return "shorter than " deciding_positions(line) ", taken at the same start by " by
-  if (verdict[line] == 2) return "same stretch, " by " comes first"
+  if (verdict[line] == 2) return (is_empty(line) ? "same place, " : "same stretch, ") by " comes first"
   return "starts inside " deciding_positions(line) ", taken by " by
 }
 
 function sentence(line) {
-  return positions_word(start[line], end[line]) ", " symbols_word(stretch(line)) ", " rule_word(rule[line]) ": " \
-    verdict_words(line)
+  return positions_word(start[line], end[line]) (is_empty(line) ? "" : ", " symbols_word(stretch(line))) ", " \
+    rule_word(rule[line]) ": " verdict_words(line)
 }
 
 # document 01, "Reply numbers"
