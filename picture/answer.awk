@@ -7,7 +7,7 @@ BEGIN {
   LINE_WORDS = 6 # rule, start, end, verdict, deciding start, deciding rule
   tape = ENVIRON["TAPE"] ""
   tape_length = length(tape)
-  origins = candidates = empty_candidates = 0
+  origins = candidates = empty_candidates = taken_lines = 0
 }
 
 function fail(message) {
@@ -71,6 +71,7 @@ NR > 2 && given_output && !refused && /^C( [0-9]+)+$/ && NF == 1 + LINE_WORDS &&
 function take(line,    i) {
   check_free(start[line])
   for (i = start[line] + 1; i < end[line]; i++) check_free(i)
+  taken_lines++
   taken_from[start[line]] = line
   for (i = start[line]; i < end[line]; i++) taken_line[i] = line
 }
@@ -90,10 +91,14 @@ function check_answer(    i) {
   if (NR == 0) fail("the answer is empty")
   if (given_output && NR == 1) fail("the line O is missing")
   if (output_length != length(output) || output_length != origins) fail("W and O do not agree")
-  for (i = 0; i < candidates; i++) check_deciding(deciding_start[i], deciding_rule[i])
+  for (i = 0; i < candidates; i++) {
+    check_deciding(deciding_start[i], deciding_rule[i])
+    check_verdict(i, taken_from[deciding_start[i]])
+  }
   for (i = 0; i < origins; i++) check_origin(i)
   if (refused) return
   for (i = 0; i < tape_length; i++) check_kept(i)
+  if (stretches_taken != taken_lines) fail("W has " stretches_taken " stretches taken, and the lines have " taken_lines)
 }
 
 # what a line says of the deciding stretch, beside the line that was taken there
@@ -101,6 +106,17 @@ function check_deciding(at, by) {
   if (!(at in taken_from)) fail("no line is taken at start " at)
   if (rule[taken_from[at]] != by)
     fail("the line taken at start " at " is of rule " rule[taken_from[at]] ", not of rule " by)
+}
+
+# The verdict of a line beside the line of the deciding stretch. Document 01: "1 shorter than the taken one at the same
+# start; 2 same stretch, lower rule taken; 3 start strictly inside a taken stretch".
+function check_verdict(line, by) {
+  if (verdict[line] == 1 && (start[line] != start[by] || end[line] >= end[by]))
+    fail(printed[line] " is not shorter than the line taken at start " start[by])
+  if (verdict[line] == 2 && (start[line] != start[by] || end[line] != end[by] || rule[line] <= rule[by]))
+    fail(printed[line] " is not the stretch of a lower rule taken at start " start[by])
+  if (verdict[line] == 3 && (start[line] <= start[by] || start[line] >= end[by]))
+    fail(printed[line] " does not start inside the line taken at start " start[by])
 }
 
 # The origin of an output symbol, beside the one before it and the taken stretch that it lies in. Document 02, No. 4: "When
