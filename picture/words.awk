@@ -95,7 +95,7 @@ function sentence(line) {
     rule_word(rule[line]) ": " verdict_words(line)
 }
 
-# document 01, "Reply numbers"
+# document 01, "Reply numbers"; document 02, No. 5: "7 is no longer given"
 function reason() {
   if (number == 1) return "the book stops before the kind byte of a record or inside its body"
   if (number == 2) return "the book has a record of an unknown kind"
@@ -103,7 +103,6 @@ function reason() {
   if (number == 4) return "the book has a state, an arc or its end before any rule"
   if (number == 5) return "a field of the book is outside its table, a symbol is above " LAST_SYMBOL ", or lowest is above highest"
   if (number == 6) return "an arc of the book names a state that the latest rule has not yet given, or joins two parts"
-  if (number == 7) return "a focus state of the book is both start and accept"
   if (number == 8) return "a byte follows the end record of the book"
   if (number == 9) return "the tape is longer than " LONGEST_TAPE " symbols"
   if (number == 10) return "the tape holds a character that is no symbol"
@@ -118,7 +117,7 @@ function reason() {
 
 # what the place means; empty where document 01 gives 0
 function place_words() {
-  if (number >= 1 && number <= 8) return "at byte " place " of the book"
+  if (number >= 1 && number <= 8 && number != 7) return "at byte " place " of the book"
   if (number == 10) return "the first one is at position " place
   if (number == 15) return place (given_output ? " words are needed" : " symbols or words are needed")
   return ""
