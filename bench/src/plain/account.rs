@@ -13,12 +13,13 @@ pub fn list(ready: &Ready, lines: &mut [u16]) -> Result<usize, Refusal> {
     Ok(candidates)
 }
 
-/// Visits each position with its left set.
+/// Visits each position with its left set, the tape's end too. `visit` stands here once, so that it becomes part of the loop: with a call of
+/// its own for the end, ACCOUNT of the house book takes about a seventh longer.
 fn positions(ready: &Ready, mut visit: impl FnMut(usize, u64)) {
     let mut number = 0;
-    for (i, symbol) in ready.tape.iter().enumerate() {
+    for i in 0..=ready.tape.len() {
         visit(i, ready.sets[number]);
-        number = ready.left_step(number, *symbol);
+        number = ready.tape.get(i).map_or(number, |symbol| ready.left_step(number, *symbol));
     }
 }
 
@@ -32,7 +33,7 @@ fn count(ready: &Ready) -> usize {
     count
 }
 
-/// The stretch that decides at a position: the taken one over it.
+/// The stretch that decides at a position: the taken one that begins there or lies over it.
 #[derive(Clone, Copy, Default)]
 struct Deciding {
     start: usize,

@@ -92,9 +92,6 @@ impl Scan {
         if part > 2 || flags > 3 {
             return 5;
         }
-        if part == 1 && flags == 3 {
-            return 7;
-        }
         self.parts[self.states] = part;
         self.states += 1;
         0

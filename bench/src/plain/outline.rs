@@ -10,6 +10,8 @@ pub struct Outline {
     /// The offset of each rule's record, where its word stands.
     pub words: [u16; RULES],
     pub longest_word: usize,
+    /// Whether some focus holds the empty word: a state of it both starts and accepts.
+    pub inserts: bool,
     /// States of each rule, by part and flag.
     pub left_accepts: [u64; RULES],
     pub focus_starts: [u64; RULES],
@@ -45,12 +47,22 @@ impl Outline {
         }
     }
 
+    /// The length of the longest output that a tape of `n` symbols can have.
+    pub fn longest_output(&self, n: usize) -> usize {
+        if self.inserts {
+            n * (self.longest_word + 1) + self.longest_word
+        } else {
+            n * self.longest_word.max(1)
+        }
+    }
+
     fn empty() -> Outline {
         Outline {
             rules: 0,
             places: [0; STATES],
             words: [0; RULES],
             longest_word: 0,
+            inserts: false,
             left_accepts: [0; RULES],
             focus_starts: [0; RULES],
             focus_accepts: [0; RULES],
@@ -82,6 +94,7 @@ impl Outline {
                 self.focus_accepts[rule] |= accept;
                 self.all_focus_starts |= start;
                 self.all_focus_accepts |= accept;
+                self.inserts |= start & accept != 0;
             }
             _ => {
                 self.right_starts[rule] |= start;

@@ -35,12 +35,12 @@ impl Sink for Write<'_> {
         self.at += 1;
     }
 
-    /// Of two or more symbols, the last one's origin is the last position of the stretch.
+    /// Of two or more symbols, the last one's origin is the last position of the stretch; an empty stretch has none.
     fn word(&mut self, word: &[u8], start: usize, end: usize) {
         let next = self.at + word.len();
         self.out[self.at..next].copy_from_slice(word);
         self.origins[self.at..next].fill(start as u16);
-        if word.len() >= 2 {
+        if word.len() >= 2 && start < end {
             self.origins[next - 1] = (end - 1) as u16;
         }
         self.at = next;
@@ -53,7 +53,7 @@ impl Sink for Write<'_> {
 #[inline(always)]
 pub fn finish(ready: &Ready, out: &mut [u8], origins: &mut [u16]) -> Result<(usize, usize), Refusal> {
     let room = out.len().min(origins.len());
-    if room < ready.tape.len() * ready.outline.longest_word.max(1) {
+    if room < ready.outline.longest_output(ready.tape.len()) {
         let mut measure = Measure(0);
         pass(ready, &mut measure);
         if room < measure.0 {
@@ -65,7 +65,7 @@ pub fn finish(ready: &Ready, out: &mut [u8], origins: &mut [u16]) -> Result<(usi
     Ok((write.at, taken))
 }
 
-/// The number of stretches taken.
+/// The number of stretches taken. After the last symbol there may still be an empty stretch.
 #[inline(always)]
 fn pass(ready: &Ready, sink: &mut impl Sink) -> usize {
     let mut taken = 0;
@@ -73,19 +73,28 @@ fn pass(ready: &Ready, sink: &mut impl Sink) -> usize {
     let mut number = 0;
     for (i, symbol) in ready.tape.iter().enumerate() {
         if i >= end {
-            match stretch_at(ready, i, number) {
-                None => sink.keep(*symbol, i),
-                Some((stop, rule)) => {
-                    let word = &ready.book[ready.outline.words[rule] as usize + 1..];
-                    sink.word(&word[1..1 + word[0] as usize], i, stop);
-                    end = stop;
-                    taken += 1;
-                }
+            if let Some((stop, rule)) = stretch_at(ready, i, number) {
+                sink.word(word_of(ready, rule), i, stop);
+                end = stop;
+                taken += 1;
+            }
+            if i >= end {
+                sink.keep(*symbol, i); // nothing is taken here, or an empty stretch
             }
         }
         number = ready.left_step(number, *symbol);
     }
+    let n = ready.tape.len();
+    if let Some((_, rule)) = stretch_at(ready, n, number) {
+        sink.word(word_of(ready, rule), n, n);
+        taken += 1;
+    }
     taken
+}
+
+fn word_of<'a>(ready: &Ready<'a>, rule: usize) -> &'a [u8] {
+    let word = &ready.book[ready.outline.words[rule] as usize + 1..];
+    &word[1..1 + word[0] as usize]
 }
 
 fn stretch_at(ready: &Ready, i: usize, number: usize) -> Option<(usize, usize)> {

@@ -1,4 +1,5 @@
-//! The walk from one position: focus states, pruned by the right set at every step, so that it ends right after the longest candidate.
+//! The walk from one position: focus states, pruned by the right set at every step, so that it ends right after the longest candidate. The
+//! first set is looked at too, for the empty stretch.
 
 use super::stepping::focus_next;
 use super::Ready;
@@ -15,15 +16,19 @@ impl Ready<'_> {
 
     /// Visits each end at which some focus of the walk from `from` accepts, with the focus set and the right set there.
     pub fn walk(&self, from: usize, left: u64, mut visit: impl FnMut(usize, u64, u64)) {
-        let mut set = self.focus_first(left, self.right_set(from));
+        let mut right = self.right_set(from);
+        let mut set = self.focus_first(left, right);
         let mut j = from;
-        while set != 0 && j < self.tape.len() {
-            let right = self.right_set(j + 1);
-            set = focus_next(self.book, self.outline, set, self.tape[j], right);
-            j += 1;
+        while set != 0 {
             if set & self.outline.all_focus_accepts != 0 {
                 visit(j, set, right);
             }
+            if j == self.tape.len() {
+                return;
+            }
+            right = self.right_set(j + 1);
+            set = focus_next(self.book, self.outline, set, self.tape[j], right);
+            j += 1;
         }
     }
 
@@ -31,7 +36,7 @@ impl Ready<'_> {
         set & self.outline.focus_accepts[rule] != 0 && right & self.outline.right_starts[rule] != 0
     }
 
-    /// The end of the longest candidate from a position, and its lowest rule.
+    /// The end of the longest candidate from a position, which may be the position itself, and its lowest rule.
     pub fn taken_at(&self, from: usize, left: u64) -> Option<(usize, usize)> {
         let mut taken = None;
         self.walk(from, left, |end, set, right| {
