@@ -1,6 +1,6 @@
 //! Before anything is timed: the contestants give the same answers and leave the same buffers. A difference ends the run.
 
-use crate::answer::{Heated, Lane, LANES, LINE, ROW_BYTES, SYMBOLS, TAPE, WORD};
+use crate::answer::{Heated, Lane, LANES, LINE, LONGEST_OUT, ROW_BYTES, SYMBOLS, TAPE};
 use crate::chance::Chance;
 use crate::heats::{lane, Heat};
 use crate::lent::Lent;
@@ -31,12 +31,20 @@ fn on(book: &[u8], tape: &[u8], lines: usize, out: usize) {
 pub fn on_whole(book: &[u8], tape: &[u8]) {
     let mut none = Lent::for_lines(0);
     let needed = proved::account(book, tape, &mut none).place;
-    on(book, tape, needed / LINE, WORD * TAPE);
+    on(book, tape, needed / LINE, LONGEST_OUT);
 }
 
 /// Books with a few bytes changed, so that every reply is met, on short tapes with little room.
 pub fn on_damaged(cases: usize, chance: &mut Chance) {
-    let whole = [books::house(), books::turn(), books::full_sets(), books::dense(chance)];
+    let whole = [
+        books::house(),
+        books::turn(),
+        books::full_sets(),
+        books::dense(chance),
+        books::lap(),
+        books::inserted_lengths(),
+        books::every_place(),
+    ];
     for case in 0..cases {
         let mut book = whole[case % whole.len()].clone();
         for _ in 0..chance.below(4) {

@@ -62,6 +62,8 @@ pub const STATES: usize = 64;
 pub const ARCS: usize = 512;
 pub const WORD: usize = 8;
 pub const TAPE: usize = 4096;
+/// A word put in before every symbol and at the end.
+pub const LONGEST_OUT: usize = (WORD + 1) * TAPE + WORD;
 pub const MOST_SETS: usize = 256;
 pub const PAIRS: usize = SYMBOLS * MOST_SETS;
 pub const ROW_BYTES: usize = 2 * PAIRS;

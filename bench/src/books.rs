@@ -14,6 +14,9 @@ const BOTH: u8 = 3;
 
 const LAST: u8 = 15;
 
+/// The mark that `lap` puts in.
+const LAP: u8 = 11;
+
 #[derive(Default)]
 struct Draft {
     bytes: Vec<u8>,
@@ -28,11 +31,11 @@ impl Draft {
         self.bytes.extend(std::iter::repeat_n(0, WORD - word.len()));
     }
 
-    /// A rule without conditions: the focus states before its first symbol and after it, which still need their arcs.
-    fn free_rule(&mut self, word: &[u8]) -> (u8, u8) {
+    /// A rule without conditions: the focus states before its first symbol, with those flags, and after it, which still need their arcs.
+    fn free_rule(&mut self, word: &[u8], first: u8) -> (u8, u8) {
         self.rule(word);
         self.any(LEFT);
-        let focus = (self.state(FOCUS, START), self.state(FOCUS, ACCEPT));
+        let focus = (self.state(FOCUS, first), self.state(FOCUS, ACCEPT));
         self.any(RIGHT);
         focus
     }
@@ -60,8 +63,8 @@ impl Draft {
     }
 
     /// Press, any number of holds, release.
-    fn touch(&mut self) -> impl FnOnce(&mut Draft) {
-        let (start, held, released) = (self.state(FOCUS, START), self.state(FOCUS, NEITHER), self.state(FOCUS, ACCEPT));
+    fn touch(&mut self, part: u8) -> impl FnOnce(&mut Draft) {
+        let (start, held, released) = (self.state(part, START), self.state(part, NEITHER), self.state(part, ACCEPT));
         move |draft| {
             draft.arc(start, 2, 2, held);
             draft.arc(held, 3, 3, held);
@@ -69,13 +72,18 @@ impl Draft {
         }
     }
 
+    /// Before a push.
+    fn push(&mut self) -> impl FnOnce(&mut Draft) {
+        let (before, pushed) = (self.state(RIGHT, START), self.state(RIGHT, ACCEPT));
+        move |draft| draft.arc(before, 5, 5, pushed)
+    }
+
     fn turn(&mut self) {
         self.rule(&[8]);
         self.any(LEFT);
-        let arcs = self.touch();
-        let (before, pushed) = (self.state(RIGHT, START), self.state(RIGHT, ACCEPT));
-        arcs(self);
-        self.arc(before, 5, 5, pushed);
+        let (touch, push) = (self.touch(FOCUS), self.push());
+        touch(self);
+        push(self);
     }
 }
 
@@ -93,7 +101,7 @@ pub fn house() -> Vec<u8> {
     draft.turn();
     draft.rule(&[9]);
     draft.any(LEFT);
-    let arcs = draft.touch();
+    let arcs = draft.touch(FOCUS);
     let (none, one, two) = (draft.state(RIGHT, START), draft.state(RIGHT, NEITHER), draft.state(RIGHT, ACCEPT));
     arcs(&mut draft);
     draft.arc(none, 0, 0, one);
@@ -108,11 +116,24 @@ pub fn turn() -> Vec<u8> {
     draft.end()
 }
 
+/// The turn, and a rule with an empty focus: a lap mark is put in between a turn and the push after it.
+pub fn lap() -> Vec<u8> {
+    let mut draft = Draft::default();
+    draft.turn();
+    draft.rule(&[LAP]);
+    let touch = draft.touch(LEFT);
+    draft.any(FOCUS);
+    let push = draft.push();
+    touch(&mut draft);
+    push(&mut draft);
+    draft.end()
+}
+
 /// Sixteen rules that nearly every position starts, 64 states, 512 arcs.
 pub fn dense(chance: &mut Chance) -> Vec<u8> {
     let mut draft = Draft::default();
     for rule in 0..16u8 {
-        let (start, more) = draft.free_rule(&[rule, LAST - rule]);
+        let (start, more) = draft.free_rule(&[rule, LAST - rule], START);
         for _ in 0..16 {
             let (first, next) = (chance.symbol(), chance.below(8) as u8);
             draft.arc(start, first, first, more);
@@ -177,13 +198,32 @@ pub fn largest() -> Vec<u8> {
     draft.end()
 }
 
-/// Sixteen rules of which every stretch of every tape is a candidate.
+/// Sixteen rules of which every stretch of every tape is a candidate, but for the empty ones: libraries before request 5 take it too.
 pub fn every_stretch() -> Vec<u8> {
+    every(START)
+}
+
+/// The same with the empty ones: as many candidates as there can be.
+pub fn every_candidate() -> Vec<u8> {
+    every(BOTH)
+}
+
+fn every(first: u8) -> Vec<u8> {
     let mut draft = Draft::default();
     for rule in 0..16u8 {
-        let (start, more) = draft.free_rule(&[rule]);
+        let (start, more) = draft.free_rule(&[rule], first);
         draft.arc(start, 0, LAST, more);
         draft.arc(more, 0, LAST, more);
+    }
+    draft.end()
+}
+
+/// Sixteen rules that each put eight symbols in at every place of every tape: the longest output that there can be.
+pub fn every_place() -> Vec<u8> {
+    let mut draft = Draft::default();
+    for rule in 0..16u8 {
+        draft.rule(&[rule; WORD]);
+        [LEFT, FOCUS, RIGHT].into_iter().for_each(|part| draft.any(part));
     }
     draft.end()
 }
@@ -195,9 +235,23 @@ pub fn word_lengths() -> Vec<u8> {
     let mut draft = Draft::default();
     for length in 0..=LONGEST {
         let word: Vec<u8> = (0..length).collect();
-        let (start, more) = draft.free_rule(&word);
+        let (start, more) = draft.free_rule(&word, START);
         draft.arc(start, length, length, more);
         draft.arc(more, LONGEST + 1, LAST, more);
+    }
+    draft.end()
+}
+
+/// The same words put in, each after a symbol of its own; not timed.
+pub fn inserted_lengths() -> Vec<u8> {
+    let mut draft = Draft::default();
+    for length in 0..=WORD as u8 {
+        let word: Vec<u8> = (0..length).collect();
+        draft.rule(&word);
+        let (before, after) = (draft.state(LEFT, START), draft.state(LEFT, ACCEPT));
+        draft.any(FOCUS);
+        draft.any(RIGHT);
+        draft.arc(before, length, length, after);
     }
     draft.end()
 }

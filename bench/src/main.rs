@@ -31,6 +31,14 @@ const LANE: [usize; 2] = [TAPE, SHORT];
 const HOSTILE: [usize; 2] = [256, 1024];
 const ALIKE: usize = 64;
 
+/// The lines of the longest account: every stretch, the empty one at each place too, by every rule.
+const MOST_LINES: usize = RULES * stretches(TAPE + 1);
+
+/// The stretches of a tape of `n` symbols, but for the empty ones; with those, there are as many as one symbol more has without.
+const fn stretches(n: usize) -> usize {
+    n * (n + 1) / 2
+}
+
 fn main() {
     let short = std::env::args().nth(1).is_some_and(|word| word == "short");
     let pace = Pace { slice: 1e-3, rounds: if short { 15 } else { 61 }, spend: if short { 1.0 } else { 4.0 } };
@@ -44,11 +52,12 @@ fn main() {
     account(&cases, pace, short);
 }
 
-/// All contestants give the same on everything that is timed, and on words of every length.
+/// All contestants give the same on everything that is timed, on words of every length, replacing and put in, and on the empty tape.
 fn agree(cases: &Cases, chance: &mut Chance) {
     for tape in [&cases.pool, &cases.one_stretch, &cases.no_candidate].into_iter().flatten() {
         agree::on_whole(&cases.house, tape);
         agree::on_whole(&cases.turn, tape);
+        agree::on_whole(&cases.lap, tape);
         agree::with_pattern(&cases.house, pcre2::HOUSE, tape);
         agree::with_pattern(&cases.turn, pcre2::TURN, tape);
     }
@@ -57,9 +66,15 @@ fn agree(cases: &Cases, chance: &mut Chance) {
         agree::on_whole(&cases.dense, tape);
         agree::on_whole(&cases.full, tape);
         agree::on_whole(&cases.lengths, tape);
+        agree::on_whole(&cases.inserted, tape);
     }
     agree::on_whole(&cases.largest, &cases.random[0]);
-    agree::on_whole(&cases.every, &cases.random[0][..HOSTILE[0]]);
+    for tape in [&cases.random[0], &[][..]] {
+        agree::on_whole(&cases.places, tape);
+    }
+    for book in [&cases.every, &cases.most] {
+        agree::on_whole(book, &cases.random[0][..HOSTILE[0]]);
+    }
     agree::on_whole(&cases.alike, &cases.random[0][..ALIKE]);
     agree::never_alike(&cases.alike, &cases.random[0]);
     agree_on_heats(cases);
@@ -73,9 +88,13 @@ fn agree_on_heats(cases: &Cases) {
         }
         agree::on_refused(book, tapes);
     }
-    for book in [&cases.largest, &cases.every, &cases.alike, &cases.lengths] {
+    for book in
+        [&cases.largest, &cases.every, &cases.most, &cases.places, &cases.alike, &cases.lengths, &cases.inserted]
+    {
         heats::of_pieces(&cases.random[..1], SHORT).iter().for_each(|heat| agree::on_heat(book, heat));
     }
+    heats::of_pieces(&cases.pool, SHORT).iter().for_each(|heat| agree::on_heat(&cases.lap, heat));
+    agree::on_refused(&cases.lap, &cases.pool);
     for tapes in [&cases.one_stretch, &cases.no_candidate] {
         heats::of_pieces(tapes, TAPE).iter().for_each(|heat| agree::on_heat(&cases.house, heat));
         agree::on_refused(&cases.house, tapes);
@@ -108,6 +127,7 @@ fn rewrite(cases: &Cases, pace: Pace) {
         ("house book, pool-like tapes", &cases.house, &cases.pool, house),
         ("turn rule alone, pool-like tapes", &cases.turn, &cases.pool, turn),
         ("turn rule alone, one tape of 64 symbols", &cases.turn, &short, turn),
+        ("turn rule and lap marks, pool-like tapes", &cases.lap, &cases.pool, none),
         ("dense book (16 rules, 512 arcs), random tapes", &cases.dense, &cases.random, none),
         ("256 sets a side, random tapes", &cases.full, &cases.random, none),
         ("house book, one long stretch", &cases.house, &cases.one_stretch, house),
@@ -157,17 +177,21 @@ fn build(cases: &Cases, pace: Pace) {
 fn account(cases: &Cases, pace: Pace, short: bool) {
     let section = Section::begin("ACCOUNT: microseconds a call, unless the row says otherwise", table::PEERS);
     let front = |symbols| &cases.random[0][..symbols];
-    section.print(&[measure::account("house book, pool-like", &cases.house, &cases.pool, pace)]);
-    section.print(&measure::hostile("no two focus sets alike", &cases.alike, 1, front(ALIKE), pace));
+    section.print(&[
+        measure::account("house book, pool-like", &cases.house, &cases.pool, pace),
+        measure::account("turn rule and lap marks, pool-like", &cases.lap, &cases.pool, pace),
+    ]);
+    section.print(&measure::hostile("no two focus sets alike", &cases.alike, stretches(TAPE), front(ALIKE), pace));
     for symbols in HOSTILE {
-        section.print(&measure::hostile("every stretch, 16 rules", &cases.every, RULES, front(symbols), pace));
+        section.print(&measure::hostile("every stretch, 16 rules", &cases.most, MOST_LINES, front(symbols), pace));
     }
     if short {
         println!("every stretch, 16 rules, {TAPE} symbols: not in a short run");
     } else if memory() < 4 << 30 {
         println!("every stretch, 16 rules, {TAPE} symbols: needs 1.6 GB for its lines, left out on this machine");
     } else {
-        section.print(&measure::longest_account("every stretch, 16 rules, once", &cases.every, &cases.random[0]));
+        let name = "every stretch, 16 rules, once";
+        section.print(&measure::longest_account(name, &cases.most, &cases.random[0], MOST_LINES));
     }
 }
 

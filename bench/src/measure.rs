@@ -1,6 +1,6 @@
 //! What each row of the table measures.
 
-use crate::answer::{LANES, LINE, RULES, TAPE};
+use crate::answer::{LANES, LINE, TAPE};
 use crate::clock::{once, Contest, Pace};
 use crate::heats::Heat;
 use crate::lent::Lent;
@@ -177,11 +177,10 @@ pub fn account(name: &str, book: &[u8], tapes: &[Vec<u8>], pace: Pace) -> Row {
 }
 
 /// ACCOUNT of a book of which every stretch is a candidate of every rule: the call; a line of it, BUILD taken off; and
-/// what the longest tape comes to by that.
-pub fn hostile(name: &str, book: &[u8], rules: usize, tape: &[u8], pace: Pace) -> [Row; 3] {
+/// what the longest tape, which has `most` lines, comes to by that.
+pub fn hostile(name: &str, book: &[u8], most: usize, tape: &[u8], pace: Pace) -> [Row; 3] {
     let AccountTimes { whole, build, lines } = time_account(book, &[tape.to_vec()], pace);
     let tape_part = [0, 1].map(|k| whole[k] - build[k]);
-    let most = longest(rules);
     let [proved, plain] = [0, 1].map(|k| build[k] + tape_part[k] / lines as f64 * most as f64);
     [
         account_row(name, tape.len(), lines, whole),
@@ -190,15 +189,9 @@ pub fn hostile(name: &str, book: &[u8], rules: usize, tape: &[u8], pace: Pace) -
     ]
 }
 
-/// The lines of the longest tape, if every stretch is a candidate of every rule.
-fn longest(rules: usize) -> usize {
-    rules * TAPE * (TAPE + 1) / 2
-}
-
 /// The longest account that there can be, called once by each contestant into one buffer; what they wrote is compared
 /// by its sum.
-pub fn longest_account(name: &str, book: &[u8], tape: &[u8]) -> [Row; 2] {
-    let lines = longest(RULES);
+pub fn longest_account(name: &str, book: &[u8], tape: &[u8], lines: usize) -> [Row; 2] {
     let mut lent = Lent::for_lines(lines);
     let mut answer = None;
     let proved = once(&mut || answer = Some(proved::account(book, tape, &mut lent)));
