@@ -2,7 +2,8 @@
  *
  * since DIR: DIR holds what src/bin/inputs.rs writes. The functions of the earlier library have the names before_*, those of this tree's the
  * names now_*. Each number is the median over ROUNDS of the quotient of two neighbouring turns, by the thread's own time on the processor.
- * Behind it stands "refused" where both refuse, and both replies where they differ. */
+ * Behind it stands "refused" where both refuse. Where the replies differ they stand alone, this tree's first: the work is not the same, as with
+ * a book that a later request allows. */
 #define _POSIX_C_SOURCE 199309L
 #include <stdio.h>
 #include <stdlib.h>
@@ -148,11 +149,10 @@ static void measure(const char *folder, const char *name)
     printf("%-32s", name);
     for (int i = 0; i < common(); i++) {
         int now = operations[i].now(), before = operations[i].before();
-        printf("  x%.2f", ratio(&operations[i]));
         if (now == before)
-            printf(" %-8s", now ? "refused" : "");
+            printf("  x%.2f %-8s", ratio(&operations[i]), now ? "refused" : "");
         else
-            printf(" %2d, %2d  ", now, before);
+            printf("  %2d, %2d        ", now, before);
         fflush(stdout);
     }
     printf("\n");

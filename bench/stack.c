@@ -18,10 +18,10 @@
 
 enum {
     STACK = 1 << 16,
-    REGISTERS = 6,            /* for arguments */
-    WORD = 8,                 /* bytes */
-    ROOM = 1 << 13,           /* more than any book or tape of the inputs has */
-    LINES = 16 * 64 * 65 / 2, /* every stretch of a short tape by every rule; the dense book's account has more and is refused */
+    REGISTERS = 6,                            /* for arguments */
+    WORD = 8,                                 /* bytes */
+    ROOM = 1 << 13,                           /* more than any book or tape of the inputs has */
+    LINES = 16 * (QAFRENDI_LONGEST_TAPE + 1), /* every place of the longest tape by every rule; the dense book's account has more and is refused */
     HEAT_OUT = QAFRENDI_MOST_LANES * QAFRENDI_LONGEST_OUT,
     TEXT = 1 << 12
 };
