@@ -1,8 +1,9 @@
-//! The account: document 01, "The account and SHOW", and document 02, No. 1.
+//! The account: document 01, "The account and SHOW", and document 02, No. 1 and No. 5.
 
 use crate::candidates::Stretch;
 use crate::reading::{Reading, Wrong};
 use crate::stretches::Stretches;
+use crate::wrong_insertion::{wrong_order, wrongly_around};
 
 /// "Five 16-bit words a candidate: rule, start, end, verdict, deciding start." Document 02, No. 1: "A sixth word gives
 /// the rule of the deciding stretch".
@@ -34,7 +35,8 @@ fn order(stretch: &Stretch, reading: Reading) -> [usize; 3] {
     let Stretch { rule, start, end } = *stretch;
     let order = reading.value([start, end, rule], Wrong::OrderRuleBeforeEnd, [start, rule, end]);
     let order = reading.value(order, Wrong::OrderRuleFirst, [rule, start, end]);
-    reading.value(order, Wrong::LongestLineFirst, [start, usize::MAX - end, rule])
+    let order = reading.value(order, Wrong::LongestLineFirst, [start, usize::MAX - end, rule]);
+    wrong_order(*stretch, reading).unwrap_or(order)
 }
 
 /// A candidate, its verdict, and the taken stretch that decides it.
@@ -53,8 +55,12 @@ fn line(candidate: Stretch, stretches: &Stretches, reading: Reading) -> Line {
     [rule, start, end, decided.verdict as usize, fifth, sixth].map(|word| word as u16)
 }
 
-/// The deciding stretch is the last one taken that does not start after the candidate.
+/// The deciding stretch is the last one taken that does not start after the candidate. Document 02, No. 5: "verdict 3
+/// still needs a start strictly inside": at the end of a taken stretch a candidate's own start is taken.
 fn decided(candidate: Stretch, taken: &[Stretch], reading: Reading) -> Decided {
+    if let Some(deciding) = wrongly_around(candidate, taken, reading) {
+        return Decided { candidate, verdict: INSIDE, deciding };
+    }
     let begun = taken.partition_point(|taken| taken.start <= candidate.start);
     let Some(deciding) = begun.checked_sub(1).map(|last| taken[last]) else {
         // Only a wrong reading leaves a candidate undecided.

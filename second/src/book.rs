@@ -1,4 +1,4 @@
-//! The book reader: document 01, "The book" and replies 1 to 8.
+//! The book reader: document 01, "The book" and replies 1 to 8, of which document 02, No. 5, retires 7.
 
 use crate::reading::{Reading, Wrong};
 use crate::record::{self, ACCEPT, ARC, BOTH, END, FOCUS, LONGEST_WORD, RIGHT, RULE, START, STATE};
@@ -77,7 +77,7 @@ pub fn read_with_rest(bytes: &[u8], reading: Reading) -> Result<Book, (Refusal, 
             return Err((Refusal { reply, place }, book));
         }
         offset += 1 + record.length;
-        book.add(&record);
+        book.add(&record, reading);
         if record.kind == END {
             return after_end(bytes, offset, reading).map_or(Ok(book.clone()), |refusal| Err((refusal, book)));
         }
@@ -112,24 +112,32 @@ impl Record<'_> {
     }
 }
 
-/// "then 2, cut body 1, then 4, 3, 5, 6, 7"
-fn order(reading: Reading) -> [u8; 6] {
+/// "then 2, cut body 1, then 4, 3, 5, 6, 7". Document 02, No. 5: "7 is no longer given."
+fn order(reading: Reading) -> [u8; 5] {
     let orders = [
-        (Wrong::NoRuleBeforeCut, [4, 1, 3, 5, 6, 7]),
-        (Wrong::FullBeforeCut, [3, 1, 4, 5, 6, 7]),
-        (Wrong::FieldsBeforeNoRule, [1, 5, 4, 3, 6, 7]),
-        (Wrong::NamesBeforeNoRule, [1, 6, 4, 3, 5, 7]),
-        (Wrong::FieldsBeforeFull, [1, 4, 5, 3, 6, 7]),
-        (Wrong::NamesBeforeFull, [1, 4, 6, 3, 5, 7]),
-        (Wrong::NamesBeforeFields, [1, 4, 3, 6, 5, 7]),
-        (Wrong::FlagsBeforeFull, [1, 4, 7, 3, 5, 6]),
+        (Wrong::NoRuleBeforeCut, [4, 1, 3, 5, 6]),
+        (Wrong::FullBeforeCut, [3, 1, 4, 5, 6]),
+        (Wrong::FieldsBeforeNoRule, [1, 5, 4, 3, 6]),
+        (Wrong::NamesBeforeNoRule, [1, 6, 4, 3, 5]),
+        (Wrong::FieldsBeforeFull, [1, 4, 5, 3, 6]),
+        (Wrong::NamesBeforeFull, [1, 4, 6, 3, 5]),
+        (Wrong::NamesBeforeFields, [1, 4, 3, 6, 5]),
     ];
     let wrongly = orders.iter().find(|(wrong, _)| reading.is(*wrong));
-    wrongly.map_or([1, 4, 3, 5, 6, 7], |(_, order)| *order)
+    wrongly.map_or([1, 4, 3, 5, 6], |(_, order)| *order)
 }
 
 fn first_fault(book: &Book, record: &Record, reading: Reading) -> Option<u8> {
-    order(reading).into_iter().find(|reply| has_fault(book, record, *reply, reading))
+    let fault = order(reading).into_iter().find(|reply| has_fault(book, record, *reply, reading));
+    fault.or_else(|| refused_both(record, reading))
+}
+
+/// For wrong readings of "7 is no longer given": the reply for a focus state with flags 3.
+fn refused_both(record: &Record, reading: Reading) -> Option<u8> {
+    let is_both = record.kind == STATE && record.body == Some(&[FOCUS, BOTH]);
+    let replies = [(Wrong::SevenStillGiven, 7), (Wrong::FiveForSeven, 5)];
+    let reply = replies.iter().find(|(wrong, _)| is_both && reading.is(*wrong));
+    reply.map(|(_, reply)| *reply)
 }
 
 fn has_fault(book: &Book, record: &Record, reply: u8, reading: Reading) -> bool {
@@ -146,7 +154,6 @@ fn has_fault(book: &Book, record: &Record, reply: u8, reading: Reading) -> bool 
         4 => book.lacks_rule(record.kind, reading),
         5 => has_bad_field(record.kind, body, reading),
         6 => record.kind == ARC && !book.may_join(body[0] as usize, body[3] as usize, reading),
-        7 => record.kind == STATE && body[1] == BOTH && flags_three_refused(body[0], reading),
         _ => false,
     }
 }
@@ -181,9 +188,13 @@ fn has_large_state(body: &[u8], reading: Reading) -> bool {
     reading.is(Wrong::LargeStateIsField) && (body[0] as usize >= MOST_STATES || body[3] as usize >= MOST_STATES)
 }
 
-/// "a focus state has flags 3"
-fn flags_three_refused(part: u8, reading: Reading) -> bool {
-    (part == FOCUS || reading.is(Wrong::FlagsThreeAnywhere)) && !reading.is(Wrong::FlagsThreeFree)
+/// "flags (1 start, 2 accept, 3 both, 0 neither)"; wrong readings halve the 3 of a focus state.
+fn flags_read(part: u8, flags: u8, reading: Reading) -> u8 {
+    if (part, flags) != (FOCUS, BOTH) {
+        return flags;
+    }
+    let flags = reading.value(flags, Wrong::BothStartsAlone, START);
+    reading.value(flags, Wrong::BothAcceptsAlone, ACCEPT)
 }
 
 impl Book {
@@ -219,17 +230,14 @@ impl Book {
         same_part && (in_latest || reading.is(Wrong::EarlierRuleNamed))
     }
 
-    fn add(&mut self, record: &Record) {
+    fn add(&mut self, record: &Record, reading: Reading) {
         let body = record.body.unwrap_or_default();
         match record.kind {
             RULE => self.words.push(body[1..1 + body[0] as usize].to_vec()),
             STATE => {
-                self.states.push(State {
-                    rule: self.words.len() - 1,
-                    part: body[0],
-                    start: body[1] & START != 0,
-                    accept: body[1] & ACCEPT != 0,
-                });
+                let (part, flags) = (body[0], flags_read(body[0], body[1], reading));
+                let (start, accept) = (flags & START != 0, flags & ACCEPT != 0);
+                self.states.push(State { rule: self.words.len() - 1, part, start, accept });
                 self.arcs_from.push(Vec::new());
             }
             ARC => {

@@ -1,4 +1,5 @@
-//! Candidates: document 01, "Which stretches are replaced".
+//! Candidates: document 01, "Which stretches are replaced", and document 02, No. 5. What wrong readings make of the
+//! empty ones is in `wrong_insertion`.
 
 use crate::book::Book;
 use crate::language::Language;
@@ -11,6 +12,13 @@ pub struct Stretch {
     pub rule: usize,
     pub start: usize,
     pub end: usize,
+}
+
+impl Stretch {
+    /// Document 02, No. 5: "a candidate's start equal its end"
+    pub fn is_empty(&self) -> bool {
+        self.start == self.end
+    }
 }
 
 /// One tape under one book; whether a stretch is a candidate is worked out whenever it is asked.
@@ -36,7 +44,8 @@ impl Candidates<'_> {
 
     fn at(&self, start: usize) -> Vec<Stretch> {
         let rules = self.rules().filter(|rule| self.left_holds(*rule, start));
-        rules.flat_map(|rule| self.under_left(rule, start)).collect()
+        let here = rules.flat_map(|rule| self.under_left(rule, start)).collect();
+        self.with_empty_ones_read(start, here)
     }
 
     /// The candidates of one rule at one start, if its left context is taken to hold there.
@@ -45,10 +54,10 @@ impl Candidates<'_> {
     }
 
     /// The stretches at one start with "t from i to j is in its focus language", whatever the contexts say;
-    /// "(0 ≤ i < j ≤ n)".
+    /// "(0 ≤ i < j ≤ n)". Document 02, No. 5: "The focus may now be empty and a candidate's start equal its end."
     pub fn foci(&self, rule: usize, start: usize) -> Vec<Stretch> {
         let focus = self.language(rule, FOCUS);
-        let ends = (start + 1..=self.tape.len()).filter(|end| focus.holds(&self.tape[start..*end]));
+        let ends = (start..=self.tape.len()).filter(|end| focus.holds(&self.tape[start..*end]));
         ends.map(|end| Stretch { rule, start, end }).collect()
     }
 
@@ -75,7 +84,7 @@ impl Candidates<'_> {
     }
 
     /// "some word beginning at j is in its right language"
-    fn right_holds(&self, rule: usize, j: usize) -> bool {
+    pub fn right_holds(&self, rule: usize, j: usize) -> bool {
         let right = self.language(rule, RIGHT);
         if self.reading.is(Wrong::EmptyPartHolds) && right.is_bare() {
             return true;

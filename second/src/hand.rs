@@ -1,7 +1,8 @@
-//! The books worked by hand beside the house book: those of document 01, "Tapes worked by hand", and one of our own for
-//! document 02, No. 4.
+//! The books worked by hand beside the house book: those of document 01, "Tapes worked by hand", and two of our own for
+//! document 02, No. 4 and No. 5.
 
 use crate::draft::{self, Part, Rule};
+use crate::record::{ACCEPT, START};
 
 /// "Letters are numbered freely below 16."
 pub mod letters {
@@ -58,5 +59,19 @@ pub fn contacts() -> Vec<u8> {
     draft::book(&[
         Rule::new(Part::any(), contact, Part::any(), &[2, 4]),
         Rule::new(Part::any(), Part::word(&[5, 5]), Part::any(), &[6, 7, 6]),
+    ])
+}
+
+/// "Federations want a lap mark inserted between a turn and the next event": rule 0 the mark, 11 and 12, after a turn;
+/// rule 1 press, any number of holds and release to turn; rule 2 inserts 6 after each of these three; rule 3 inserts 7
+/// before a finish.
+pub fn laps() -> Vec<u8> {
+    let nothing = Part::any();
+    let touched = Part { flags: vec![START, ACCEPT], arcs: Vec::new() }.with_arc(0, 2, 4, 1);
+    draft::book(&[
+        Rule::new(Part::word(&[8]), nothing.clone(), Part::any(), &[11, 12]),
+        Rule::new(Part::any(), Part::word(&[2, 4]).with_arc(1, 3, 3, 1), Part::any(), &[8]),
+        Rule::new(touched, nothing.clone(), Part::any(), &[6]),
+        Rule::new(Part::any(), nothing, Part::word(&[9]), &[7]),
     ])
 }

@@ -1,5 +1,6 @@
-//! The independent second program: what document 01 says, with No. 1, No. 2 and No. 4 of document 02, worked out by
-//! brute force, and compared with what the proved operations do. It shares no code, no table and no constant with them.
+//! The independent second program: what document 01 says, with No. 1, No. 2, No. 4 and No. 5 of document 02, worked out
+//! by brute force, and compared with what the proved operations do. It shares no code, no table and no constant with
+//! them.
 //!
 //! The reference is read in this order: `record`, `book`, `run`, `language`, `candidates`, `taken`, `stretches`,
 //! `output`, `account`, `sets`, `numbering`, `sides`, `workspace`, `admission`, `room`, `rewrite`, `show`, `lane`, `heat`,
@@ -47,5 +48,6 @@ pub mod stretches;
 pub mod taken;
 pub mod tally;
 pub mod workspace;
+pub mod wrong_insertion;
 pub mod wrong_lane;
 pub mod wrong_mark;

@@ -86,6 +86,7 @@ fn rewrite(call: &Call, lent: &mut Lent, agreement: &Agreement) -> Result<Counts
     admit(call, &sides, lent, reading)?;
     let stretches = agreement.stretches(&book, &call.tape);
     let reading = reading.value(reading, Wrong::LanesAloneAtLast, Reading::with(Wrong::AllAtStart));
+    let reading = reading.value(reading, Wrong::LanesAloneInsert, Reading::with(Wrong::NothingInserted));
     let Rewritten { length, taken } = rewrite::rewrite(call, &sides, &stretches, lent, reading)?;
     Ok([length, taken, 0, 0])
 }
@@ -98,7 +99,7 @@ fn account(call: &Call, lent: &mut Lent, agreement: &Agreement) -> Result<Counts
     admit(call, &sides, lent, reading)?;
     let untouched = lent.clone();
     workspace::fill(call, &sides, lent, reading);
-    let stretches = agreement.stretches(&book, &call.tape);
+    let stretches = agreement.stretches(&book, &call.tape).accounted(call.tape.len(), reading);
     let length = account::length(&stretches, reading);
     // Document 02, No. 1: "15 now counts six words a candidate."
     let needed = WORDS_A_LINE * length;

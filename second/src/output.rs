@@ -1,9 +1,11 @@
-//! The output and its origins: document 01, "Which stretches are replaced", and document 02, No. 4. What wrong readings
-//! make of a replacement's origins is in `wrong_mark`.
+//! The output and its origins: document 01, "Which stretches are replaced", and document 02, No. 4 and No. 5. What
+//! wrong readings make of a replacement's origins is in `wrong_mark`, and what they keep around an inserted word in
+//! `wrong_insertion`.
 
 use crate::book::Book;
 use crate::candidates::Stretch;
 use crate::reading::{Reading, Wrong};
+use crate::wrong_insertion::{kept_around, with_kept_late};
 
 pub struct Output {
     pub symbols: Vec<u8>,
@@ -24,17 +26,19 @@ pub struct Mark<'a> {
     pub written: usize,
 }
 
-/// "The output replaces each taken stretch by its rule's word and keeps the rest."
+/// "The output replaces each taken stretch by its rule's word and keeps the rest." Document 02, No. 5: "if it is empty,
+/// the word is written and the symbol at that position is kept".
 pub fn output(book: &Book, tape: &[u8], taken: &[Stretch], reading: Reading) -> Output {
     let mut output = Output { symbols: Vec::new(), origins: Vec::new() };
     let mut position = 0;
     for stretch in taken {
-        output.keep(tape, position, stretch.start, reading);
+        let (up_to, from) = kept_around(*stretch, tape, reading).unwrap_or((stretch.start, stretch.end));
+        output.keep(tape, position, up_to, reading);
         output.replace(tape, *stretch, &book.words[stretch.rule], reading);
-        position = position.max(stretch.end);
+        position = position.max(from);
     }
     output.keep(tape, position, tape.len(), reading);
-    output
+    with_kept_late(output, tape, taken, reading)
 }
 
 impl Output {
@@ -59,13 +63,19 @@ impl Output {
 
 impl Mark<'_> {
     /// "every symbol of a replacement the start of the stretch". Document 02, No. 4: "When a replacement has two or
-    /// more symbols, the last one's origin is the last position of the stretch; the others keep the start."
+    /// more symbols, the last one's origin is the last position of the stretch; the others keep the start." No. 5:
+    /// "Every origin of an inserted word is its position, n at the tape's end."
     fn origin(&self) -> usize {
-        if self.word.len() >= 2 && self.is_last() {
+        if self.closes() && !self.stretch.is_empty() {
             self.stretch.end - 1
         } else {
             self.stretch.start
         }
+    }
+
+    /// Whether the symbol is the last of two or more.
+    pub fn closes(&self) -> bool {
+        self.word.len() >= 2 && self.is_last()
     }
 
     pub fn is_last(&self) -> bool {

@@ -1,4 +1,5 @@
-//! How document 01, with No. 1, No. 2 and No. 4 of document 02, is read: truly, or with one wrong reading put in.
+//! How document 01, with No. 1, No. 2, No. 4 and No. 5 of document 02, is read: truly, or with one wrong reading put
+//! in.
 //!
 //! A check that cannot fail is a defect, so every wrong reading below can be put into the reference
 //! (`--wrong NAME`), and the tests show that the fixed-seed run catches each of them.
@@ -46,7 +47,6 @@ wrong_readings! {
     FieldsBeforeFull, "fields-before-full", "5 is tested before 3.";
     NamesBeforeFull, "names-before-full", "6 is tested before 3.";
     NamesBeforeFields, "names-before-fields", "6 is tested before 5.";
-    FlagsBeforeFull, "flags-before-full", "7 is tested before 3.";
     NoRuleUntested, "no-rule-untested", "An end before any rule is accepted.";
     SeventeenRules, "seventeen-rules", "17 rules are accepted.";
     FifteenRules, "fifteen-rules", "The 16th rule is refused.";
@@ -62,8 +62,6 @@ wrong_readings! {
     EarlierRuleNamed, "earlier-rule-named", "An arc may name states of an earlier rule.";
     TwoPartsNamed, "two-parts-named", "An arc may lead from one part to another.";
     LargeStateIsField, "large-state-is-field", "A state number of 64 or more is 5, not 6.";
-    FlagsThreeAnywhere, "flags-three-anywhere", "Flags 3 are refused in every part.";
-    FlagsThreeFree, "flags-three-free", "A focus state may have flags 3.";
     CountsKept, "counts-kept", "A refused book still returns its counts.";
     EmptyPartHolds, "empty-part-holds", "A context part without states asks for nothing.";
     OneStart, "one-start", "Only the first start state of a part counts.";
@@ -140,7 +138,6 @@ wrong_readings! {
     LastLineHidden, "last-line-hidden", "SHOW does not reach the last line of the account.";
     LineBegunIsEnough, "line-begun-is-enough", "SHOW reads a line whose last words are missing.";
     LineWraps, "line-wraps", "A huge line number wraps around at 32 bits.";
-    EmptyStretchShown, "empty-stretch-shown", "If start and end are equal SHOW hands back the empty part there.";
     TapeEndHidden, "tape-end-hidden", "SHOW refuses a stretch that ends at the tape's end.";
     PastTapeCut, "past-tape-cut", "SHOW cuts a stretch that goes past the tape.";
     EmptyPartAtEnd, "empty-part-at-end", "SHOW's empty part stands at the tape's end.";
@@ -250,6 +247,71 @@ wrong_readings! {
     LastInOutput, "last-in-output", "The last symbol's origin is its place in the output.";
     CountUpToLast, "count-up-to-last", "The origins of a replacement count up and stop at the last position.";
     CountUpBeforeLast, "count-up-before-last", "The symbols before the last have origins counting up from the start.";
+
+    // Marks put in without removing anything: document 02, No. 5. First the focus and the candidates.
+    SevenStillGiven, "seven-still-given", "A focus state with flags 3 is still refused with 7.";
+    FiveForSeven, "five-for-seven", "A focus state with flags 3 is refused with 5.";
+    BothStartsAlone, "both-starts-alone", "A focus state with flags 3 is a start state alone.";
+    BothAcceptsAlone, "both-accepts-alone", "A focus state with flags 3 is an accept state alone.";
+    BareFocusInserts, "bare-focus-inserts", "A focus without states accepts the empty word.";
+    NoEmptyCandidate, "no-empty-candidate", "A candidate's start is still below its end.";
+    EmptyTapeBare, "empty-tape-bare", "An empty tape has no candidates.";
+    EmptyWithoutWord, "empty-without-word", "An empty stretch is no candidate of a rule with an empty word.";
+    EmptyWithoutArcs, "empty-without-arcs", "Only a focus without arcs has empty candidates.";
+    EmptyByLeftAlone, "empty-by-left-alone", "An empty candidate needs its left context alone.";
+    EmptyByRightAlone, "empty-by-right-alone", "An empty candidate needs its right context alone.";
+    EmptyNeedsLeft, "empty-needs-left", "The word of an empty candidate's left context is never empty.";
+    EmptyNeedsRight, "empty-needs-right", "The word of an empty candidate's right context is never empty.";
+
+    // Which of them are taken.
+    EmptyTakenInside, "empty-taken-inside", "An empty candidate strictly inside a taken stretch is taken too.";
+    EmptyAtEndNotTaken, "empty-at-end-not-taken", "An empty candidate at the end of a taken stretch is not taken.";
+    NoneAfterInsertion, "none-after-insertion", "Nothing is taken right after the symbol kept at an insertion.";
+    EmptyBeatsLonger, "empty-beats-longer", "At a taken start an empty candidate wins over longer ones.";
+    HighestEmptyWins, "highest-empty-wins", "Among empty stretches the highest rule is taken.";
+    InsertedAlone, "inserted-alone", "No empty candidate is taken on a tape that has longer stretches taken.";
+
+    // What REWRITE makes of them.
+    NothingInserted, "nothing-inserted", "REWRITE inserts nothing.";
+    FrontNotRewritten, "front-not-rewritten", "REWRITE inserts nothing at the tape's front.";
+    EndNotRewritten, "end-not-rewritten", "REWRITE does not visit the tape's end.";
+    InsertedTwice, "inserted-twice", "REWRITE takes the start of an empty stretch twice.";
+    EveryRuleInserts, "every-rule-inserts", "REWRITE inserts the words of all rules with an empty candidate there.";
+    EmptyBesideLonger, "empty-beside-longer", "REWRITE inserts an empty candidate's word before a longer stretch too.";
+    SymbolDropped, "symbol-dropped", "The symbol at an insertion is not kept.";
+    SymbolBeforeWord, "symbol-before-word", "The symbol at an insertion is kept before the word.";
+    InsertedUncounted, "inserted-uncounted", "REWRITE does not count empty stretches taken.";
+    InsertedUnmeasured, "inserted-unmeasured", "15 of REWRITE asks for no room for inserted words.";
+    EndUnmeasured, "end-unmeasured", "15 of REWRITE asks for no room for a word inserted at the tape's end.";
+    SymbolUnmeasured, "symbol-unmeasured", "15 of REWRITE asks for no room for the symbols kept at insertions.";
+    InsertedEarly, "inserted-early", "The origin of an inserted word is the position before it.";
+    InsertedLate, "inserted-late", "The origin of an inserted word is the position after it.";
+    InsertedLastEarly, "inserted-last-early", "The last of two or more inserted symbols has the end less one.";
+    InsertedLastLate, "inserted-last-late", "The last of two or more inserted symbols has the position after it.";
+    EndAtLastPosition, "end-at-last-position", "A word inserted at the tape's end has the tape's last position.";
+    InsertedInOutput, "inserted-in-output", "The origin of an inserted symbol is its place in the output.";
+    KeptLate, "kept-late", "The symbol kept at an insertion has the position after it.";
+    LanesInsertNothing, "lanes-insert-nothing", "Nothing is inserted in the lanes of a heat.";
+    LanesAloneInsert, "lanes-alone-insert", "Only in the lanes of a heat words are inserted.";
+    LaneEndNotRewritten, "lane-end-not-rewritten", "A lane's end is not visited.";
+    BetweenLanesOnce, "between-lanes-once", "Nothing is inserted at the front of a lane right after the one before.";
+
+    // What ACCOUNT and SHOW make of them.
+    EndNotAccounted, "end-not-accounted", "ACCOUNT does not visit the tape's end.";
+    EndUncounted, "end-uncounted", "ACCOUNT lists the candidates at the tape's end and does not count them.";
+    EndUnlisted, "end-unlisted", "ACCOUNT counts the candidates at the tape's end and does not list them.";
+    EmptyUnlisted, "empty-unlisted", "ACCOUNT does not list empty candidates.";
+    EmptyInsideUnlisted, "empty-inside-unlisted", "ACCOUNT does not list an empty candidate inside a taken stretch.";
+    EmptyLinesLast, "empty-lines-last", "The account lists a start's empty candidates after the longer ones.";
+    EmptyLinesApart, "empty-lines-apart", "The account lists empty candidates after all others.";
+    EmptyAtEndInside, "empty-at-end-inside", "An empty candidate at the end of a taken stretch has verdict 3.";
+    EmptyShorterInside, "empty-shorter-inside", "An empty candidate at the start of a taken stretch has verdict 3.";
+    EmptyStretchAtFront, "empty-stretch-at-front", "SHOW gives an empty stretch as the empty part at the tape's front.";
+    EmptyEndAtFront, "empty-end-at-front", "SHOW gives an empty stretch at the tape's end as the part at its front.";
+    EmptyPastTapeAtEnd, "empty-past-tape-at-end", "SHOW gives an empty stretch past the tape as the part at its end.";
+    EmptyShowsSymbol, "empty-shows-symbol", "SHOW gives an empty stretch as the symbol kept there.";
+    StartAboveEndTurned, "start-above-end-turned", "If start is above end SHOW hands back the stretch between them.";
+    StartAboveEndAtStart, "start-above-end-at-start", "If start is above end SHOW hands back the empty part at start.";
 
     // The program.
     CapitalsRead, "capitals-read", "A to F are hex digits too.";

@@ -1,24 +1,26 @@
 //! SHOW: document 01, "hands back that stretch of the tape itself"; document 02, No. 1: "SHOW and the printed C line
-//! follow."
+//! follow."; and No. 5.
 
 use std::ops::Range;
 
 use crate::account::{FIVE_WORDS, WORDS_A_LINE};
 use crate::reading::{Reading, Wrong};
+use crate::wrong_insertion::wrong_part;
 
 /// The part of the tape that SHOW hands back.
 ///
 /// "If the line is not wholly inside the account, or its start is not below its end, or its end is past the tape, it
-/// hands back the empty part at the tape's front."
+/// hands back the empty part at the tape's front." Document 02, No. 5: "SHOW gives an empty stretch as an empty part at
+/// its start, and the front only when start is above end or for the other two causes."
 pub fn show(tape: &[u8], account: &[u16], line: u32, reading: Reading) -> Range<usize> {
     let empty = reading.value(0..0, Wrong::EmptyPartAtEnd, tape.len()..tape.len());
     let Some((start, end)) = stretch(account, line, reading) else { return empty };
-    if reading.is(Wrong::EmptyStretchShown) && start == end && end <= tape.len() {
-        return start..end;
+    if let Some(part) = wrong_part(start, end, tape.len(), reading) {
+        return part;
     }
     let end = reading.value(end, Wrong::PastTapeCut, end.min(tape.len()));
     let past = end > reading.value(tape.len(), Wrong::TapeEndHidden, tape.len().saturating_sub(1));
-    if start >= end || past {
+    if start > end || past {
         return empty;
     }
     start..end

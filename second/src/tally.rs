@@ -37,9 +37,10 @@ impl Replies {
     }
 
     /// "CHECK gives 1 to 8; BUILD adds 11, 13, 14; the two others give all." Document 02, No. 2: "16 .. then 1 to 8, 11,
-    /// 13, 14 for the whole call .. then per lane 17 .. 9, 10, 12, 15".
+    /// 13, 14 for the whole call .. then per lane 17 .. 9, 10, 12, 15". No. 5: "7 is no longer given."
     fn can_be(self, reply: usize) -> bool {
         match self {
+            _ if reply == 7 => false,
             Replies::Of(Operation::Check) => reply <= 8,
             Replies::Of(Operation::Build) => reply <= 8 || matches!(reply, 11 | 13 | 14),
             Replies::Of(Operation::Rewrite | Operation::Account) => reply <= 15,

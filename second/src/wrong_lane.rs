@@ -17,12 +17,14 @@ use crate::taken::taken;
 use crate::workspace;
 
 /// Those that are wrong readings of the lane's REWRITE.
-const OF_REWRITE: [(Wrong, Wrong); 5] = [
+const OF_REWRITE: [(Wrong, Wrong); 7] = [
     (Wrong::LaneSymbolBeforeLength, Wrong::SymbolBeforeLength),
     (Wrong::LaneRoomKeepsScratch, Wrong::RoomKeepsScratch),
     (Wrong::LaneRoomOfOut, Wrong::OriginsUntested),
     (Wrong::LaneRoomOfOrigins, Wrong::OutUntested),
     (Wrong::LanesAtStart, Wrong::AllAtStart),
+    (Wrong::LanesInsertNothing, Wrong::NothingInserted),
+    (Wrong::LaneEndNotRewritten, Wrong::EndNotRewritten),
 ];
 
 /// Those by which a reply is given for the whole common buffer.
@@ -87,8 +89,17 @@ impl Turn<'_> {
     }
 
     pub fn reading_of_rewrite(&self) -> Reading {
+        if self.reading().is(Wrong::BetweenLanesOnce) && self.goes_on() {
+            return Reading::with(Wrong::FrontNotRewritten);
+        }
         let of_rewrite = OF_REWRITE.iter().find(|(wrong, _)| self.reading().is(*wrong));
         of_rewrite.map_or(self.reading(), |(_, wrong)| Reading::with(*wrong))
+    }
+
+    /// Whether the lane starts where the one before it ends.
+    fn goes_on(&self) -> bool {
+        let before = self.at.checked_sub(1).and_then(|at| stretch(self.call.lanes[at], self.call.tape.len()));
+        before.is_some_and(|before| before.end as u64 == self.lane().start)
     }
 
     /// The common buffer in the place of the lane's tape.

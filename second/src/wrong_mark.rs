@@ -1,4 +1,4 @@
-//! Wrong readings of the origins of a replacement. The true one is in `output`.
+//! Wrong readings of the origins of a replacement, an inserted word among them. The true one is in `output`.
 
 use crate::candidates::Stretch;
 use crate::output::Mark;
@@ -7,18 +7,23 @@ use crate::reading::{Reading, Wrong};
 impl Mark<'_> {
     /// The origin by the wrong reading that is put in, if that is one of those below.
     pub fn wrong_origin(&self, reading: Reading) -> Option<usize> {
-        let mut instead = self.wrongly_at_last().into_iter().chain(self.elsewhere());
+        let inserted = self.inserted_elsewhere().into_iter().filter(|_| self.stretch.is_empty());
+        let mut instead = self.wrongly_at_last().into_iter().chain(self.elsewhere()).chain(inserted);
         instead.find(|(wrong, _)| reading.is(*wrong)).map(|(_, origin)| origin)
+    }
+
+    /// The last position of the stretch; of an empty one its own position.
+    fn last(&self) -> usize {
+        self.stretch.end.saturating_sub(1).max(self.stretch.start)
     }
 
     /// The last position for other symbols than truly, the start for all the rest.
     fn wrongly_at_last(&self) -> [(Wrong, usize); 12] {
         let Stretch { start, end, .. } = self.stretch;
         let (length, replaced) = (self.word.len(), end - start);
-        let (is_first, is_last) = (self.place == 0, self.is_last());
-        let closes = is_last && length >= 2;
-        let stands_there = self.tape[end - 1] == self.word[self.place];
-        let at_last = |holds: bool| if holds { end - 1 } else { start };
+        let (is_first, is_last, closes) = (self.place == 0, self.is_last(), self.closes());
+        let stands_there = self.tape.get(self.last()) == Some(&self.word[self.place]);
+        let at_last = |holds: bool| if holds { self.last() } else { start };
         [
             (Wrong::AllAtStart, start),
             (Wrong::OneAtLast, at_last(is_last)),
@@ -38,8 +43,7 @@ impl Mark<'_> {
     /// Other positions than the last and the start.
     fn elsewhere(&self) -> [(Wrong, usize); 8] {
         let Stretch { start, end, .. } = self.stretch;
-        let (last, counted) = (end - 1, start + self.place);
-        let closes = self.is_last() && self.word.len() >= 2;
+        let (last, counted, closes) = (self.last(), start + self.place, self.closes());
         let of_last = |origin: usize| if closes { origin } else { start };
         [
             (Wrong::OriginsCountUp, counted),
@@ -50,6 +54,20 @@ impl Mark<'_> {
             (Wrong::LastInOutput, of_last(self.written)),
             (Wrong::CountUpToLast, counted.min(last)),
             (Wrong::CountUpBeforeLast, if closes { last } else { counted }),
+        ]
+    }
+
+    /// Other positions than its own for an inserted word.
+    fn inserted_elsewhere(&self) -> [(Wrong, usize); 6] {
+        let place = self.stretch.start;
+        let (before, after, at_end) = (place.saturating_sub(1), place + 1, place == self.tape.len());
+        [
+            (Wrong::InsertedEarly, before),
+            (Wrong::InsertedLate, after),
+            (Wrong::InsertedLastEarly, if self.closes() { before } else { place }),
+            (Wrong::InsertedLastLate, if self.closes() { after } else { place }),
+            (Wrong::EndAtLastPosition, if at_end { before } else { place }),
+            (Wrong::InsertedInOutput, self.written),
         ]
     }
 }

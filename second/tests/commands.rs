@@ -85,11 +85,12 @@ fn check_agrees_with_itself() {
 fn check_finds_and_repeats_a_small_case() {
     finds_and_repeats("longest-focus-first");
     finds_and_repeats("refused-lane-uses-needed");
+    finds_and_repeats("end-not-rewritten");
 }
 
 fn finds_and_repeats(wrong: &str) {
     let door = format!("{SECOND} serve --wrong {wrong}");
-    let output = second(&["check", "5", "600", "--door", &door]);
+    let output = second(&["check", "6", "600", "--door", &door]);
     assert!(!output.status.success());
     assert!(last_line(&output).ends_with(" passed, 1 failed"));
     let text = printed(&output);

@@ -1,9 +1,9 @@
-//! The reference, and the fast stand-in, against document 01, with No. 1 and No. 4 of document 02, read as literally as
-//! can be: every run followed on its own, from state to state. Slow, so small tapes alone.
+//! The reference, and the fast stand-in, against document 01, with No. 1, No. 4 and No. 5 of document 02, read as
+//! literally as can be: every run followed on its own, from state to state. Slow, so small tapes alone.
 
 use std::slice;
 
-use second::account::{Line, WORDS_A_LINE};
+use second::account::{self, Line, WORDS_A_LINE};
 use second::answer::{Answer, Lent};
 use second::book::{self, Book, MOST_RULES};
 use second::call::{Call, Lengths, Operation};
@@ -12,6 +12,7 @@ use second::chance::Chance;
 use second::generate::alphabet::Alphabet;
 use second::generate::{rules, tapes};
 use second::operations::answer;
+use second::output::{self, Output};
 use second::reading::{Reading, Wrong};
 use second::record::{FOCUS, LEFT, RIGHT};
 use second::sets::{left_set, right_set};
@@ -20,8 +21,11 @@ use second::{draft, fast};
 
 const BOOKS: u64 = 1500;
 const LONGEST: usize = 7;
-/// Every stretch of the longest tape for each rule.
-const MOST_LINES: usize = MOST_RULES * LONGEST * (LONGEST + 1) / 2;
+/// Every stretch of the longest tape for each rule, the empty ones too.
+const MOST_LINES: usize = MOST_RULES * (LONGEST + 1) * (LONGEST + 2) / 2;
+const MOST_WORDS: usize = MOST_LINES * WORDS_A_LINE;
+/// Each symbol of the longest tape kept, and eight inserted at each place.
+const MOST_OUT: usize = LONGEST + 8 * (LONGEST + 1);
 
 /// Whether some run from this state over this word ends in a state that is wanted.
 fn leads(book: &Book, state: usize, word: &[u8], wanted: &dyn Fn(usize) -> bool) -> bool {
@@ -47,8 +51,8 @@ fn right_holds(book: &Book, rule: usize, tape: &[u8], at: usize) -> bool {
 /// Start, end and rule of every candidate, in the account's order.
 fn candidates(book: &Book, tape: &[u8]) -> Vec<(usize, usize, usize)> {
     let mut found = Vec::new();
-    for i in 0..tape.len() {
-        for j in i + 1..=tape.len() {
+    for i in 0..=tape.len() {
+        for j in i..=tape.len() {
             for rule in 0..book.words.len() {
                 let left = (0..=i).any(|begin| in_language(book, rule, LEFT, &tape[begin..i]));
                 if left && in_language(book, rule, FOCUS, &tape[i..j]) && right_holds(book, rule, tape, j) {
@@ -64,7 +68,9 @@ fn taken(candidates: &[(usize, usize, usize)]) -> Vec<(usize, usize, usize)> {
     let mut taken: Vec<(usize, usize, usize)> = Vec::new();
     loop {
         let from = taken.last().map_or(0, |(_, end, _)| *end);
-        let Some(start) = candidates.iter().map(|(start, _, _)| *start).filter(|start| *start >= from).min() else {
+        let again = |start: &usize| taken.iter().any(|(taken, _, _)| taken == start);
+        let starts = candidates.iter().map(|(start, _, _)| *start).filter(|start| *start >= from && !again(start));
+        let Some(start) = starts.min() else {
             return taken;
         };
         let here = candidates.iter().filter(|(at, _, _)| *at == start);
@@ -74,14 +80,16 @@ fn taken(candidates: &[(usize, usize, usize)]) -> Vec<(usize, usize, usize)> {
     }
 }
 
-/// Output symbols with their origins: at each position of the tape those that have it as origin.
-fn output(book: &Book, tape: &[u8], taken: &[(usize, usize, usize)]) -> Vec<(u8, u16)> {
+/// Output symbols with their origins: at each position of the tape, and at its end, those that have it as origin.
+fn literal_output(book: &Book, tape: &[u8], taken: &[(usize, usize, usize)]) -> Vec<(u8, u16)> {
     let mut output = Vec::new();
-    for (position, symbol) in tape.iter().enumerate() {
+    for position in 0..=tape.len() {
         let mut write = |symbols: &[u8]| output.extend(symbols.iter().map(|symbol| (*symbol, position as u16)));
+        let inserted = taken.iter().find(|(start, end, _)| (*start, *end) == (position, position));
+        inserted.iter().for_each(|(_, _, rule)| write(&book.words[*rule]));
         let around = taken.iter().find(|(start, end, _)| (*start..*end).contains(&position));
         let Some((start, end, rule)) = around else {
-            write(&[*symbol]);
+            write(tape.get(position).map_or(&[], slice::from_ref));
             continue;
         };
         let (at_start, at_last) = by_origin(&book.words[*rule]);
@@ -106,6 +114,28 @@ fn by_origin(word: &[u8]) -> (&[u8], &[u8]) {
 /// Whether a stretch of two or more symbols is replaced by a word of so many or more.
 fn has_mark(book: &Book, taken: &[(usize, usize, usize)], symbols: usize) -> bool {
     taken.iter().any(|(start, end, rule)| *start + 2 <= *end && book.words[*rule].len() >= symbols)
+}
+
+/// In which of these ways empty candidates stand on a tape of n symbols: taken at its front, inside it, at its end, on
+/// the empty tape, at the end of a taken stretch; not taken inside a taken stretch, at the start of one, beside a lower
+/// rule.
+fn ways_of_empty(n: usize, candidates: &[(usize, usize, usize)], taken: &[(usize, usize, usize)]) -> [bool; 8] {
+    let empty = |of: &[(usize, usize, usize)], wanted: &dyn Fn(usize) -> bool| {
+        of.iter().any(|(start, end, _)| start == end && wanted(*start))
+    };
+    let longer =
+        |wanted: &dyn Fn(usize, usize) -> bool| taken.iter().any(|(start, end, _)| start < end && wanted(*start, *end));
+    let lower = |at: usize| candidates.iter().filter(|candidate| (candidate.0, candidate.1) == (at, at)).count() > 1;
+    [
+        empty(taken, &|at| at == 0 && n > 0),
+        empty(taken, &|at| 0 < at && at < n),
+        empty(taken, &|at| at == n && n > 0),
+        empty(taken, &|_| n == 0),
+        empty(taken, &|at| longer(&|_, end| end == at)),
+        empty(candidates, &|at| longer(&|start, end| start < at && at < end)),
+        empty(candidates, &|at| longer(&|start, _| start == at)),
+        empty(taken, &lower),
+    ]
 }
 
 /// A verdict at a time: its condition, and the start and the rule of the stretch that it names.
@@ -160,8 +190,8 @@ fn answered_by(operation: Operation, book: &[u8], tape: &[u8], reading: Reading)
     let mut call = Call::new(operation);
     call.book = book.to_vec();
     call.tape = tape.to_vec();
-    call.lengths =
-        Lengths { rows: 8192, sets: 512, scratch: LONGEST + 1, out: 64, origins: 64, lines: MOST_LINES * WORDS_A_LINE };
+    let (scratch, lines) = (LONGEST + 1, MOST_WORDS);
+    call.lengths = Lengths { rows: 8192, sets: 512, scratch, out: MOST_OUT, origins: MOST_OUT, lines };
     answer(&call, reading)
 }
 
@@ -183,13 +213,13 @@ fn drawn(number: u64) -> (Vec<u8>, Vec<u8>) {
 
 #[test]
 fn candidates_taken_output_and_account() {
-    let (mut with_candidates, mut with_several, mut with_marks) = (0, 0, [0; 2]);
+    let (mut with_candidates, mut with_several, mut with_marks, mut with_empty) = (0, 0, [0; 2], [0; 8]);
     for number in 0..BOOKS {
         let (bytes, tape) = drawn(number);
         let book = book::read(&bytes, Reading::TRUE).expect("a valid book");
         let candidates = candidates(&book, &tape);
         let taken = taken(&candidates);
-        let output = output(&book, &tape, &taken);
+        let output = literal_output(&book, &tape, &taken);
         for stretches in [Stretches::plainly(&book, &tape, Reading::TRUE), Stretches::fast(&book, &tape)] {
             let triples =
                 |stretches: &[Stretch]| -> Vec<_> { stretches.iter().map(|s| (s.start, s.end, s.rule)).collect() };
@@ -213,9 +243,50 @@ fn candidates_taken_output_and_account() {
         with_several += u64::from(candidates.len() > taken.len());
         with_marks[0] += u64::from(has_mark(&book, &taken, 2));
         with_marks[1] += u64::from(has_mark(&book, &taken, 3));
+        let ways = ways_of_empty(tape.len(), &candidates, &taken);
+        with_empty.iter_mut().zip(ways).for_each(|(books, way)| *books += u64::from(way));
     }
     assert!(with_candidates > BOOKS / 3 && with_several > BOOKS / 6, "{with_candidates} {with_several}");
     assert!(with_marks[0] > BOOKS / 6 && with_marks[1] > BOOKS / 10, "{with_marks:?}");
+    // The fourth way needs an empty tape, which is seldom drawn.
+    let least = |way: usize| if way == 3 { BOOKS / 200 } else { BOOKS / 10 };
+    assert!((0..8).all(|way| with_empty[way] > least(way)), "{with_empty:?}");
+}
+
+/// Output symbols with their origins, without the inserted words, which are the first symbols with their origin.
+fn without_inserted(book: &Book, taken: &[Stretch], output: Output) -> Vec<(u8, u16)> {
+    let mut pairs: Vec<(u8, u16)> = output.symbols.into_iter().zip(output.origins).collect();
+    for inserted in taken.iter().filter(|taken| taken.is_empty()) {
+        for symbol in &book.words[inserted.rule] {
+            let first = pairs.iter().position(|(_, origin)| usize::from(*origin) == inserted.start);
+            assert_eq!(first.map(|at| pairs.remove(at).0), Some(*symbol));
+        }
+    }
+    pairs
+}
+
+/// "Marks put in without removing anything": if empty candidates were none, the same longer stretches would be taken,
+/// the account would have the same other lines, and the output would be the same without the inserted words.
+#[test]
+fn insertions_change_nothing_else() {
+    let mut inserted = [0; 2];
+    for number in 0..BOOKS {
+        let (bytes, tape) = drawn(number);
+        let book = book::read(&bytes, Reading::TRUE).expect("a valid book");
+        let [with, without] = [Reading::TRUE, Reading::with(Wrong::NoEmptyCandidate)]
+            .map(|reading| Stretches::plainly(&book, &tape, reading));
+        let longer: Vec<Stretch> = with.taken.iter().copied().filter(|taken| !taken.is_empty()).collect();
+        assert_eq!(longer, without.taken, "book {number}");
+        let [new, old] = [&with, &without].map(|stretches| account::lines(stretches, Reading::TRUE));
+        let other: Vec<Line> = new.into_iter().filter(|line| line[1] < line[2]).collect();
+        assert_eq!(other, old, "book {number}");
+        let [new, old] =
+            [&with, &without].map(|stretches| output::output(&book, &tape, &stretches.taken, Reading::TRUE));
+        let old: Vec<(u8, u16)> = old.symbols.into_iter().zip(old.origins).collect();
+        assert_eq!(without_inserted(&book, &with.taken, new), old, "book {number}");
+        inserted[usize::from(with.taken != without.taken)] += 1;
+    }
+    assert!(inserted.iter().all(|books| *books > BOOKS / 6), "{inserted:?}");
 }
 
 /// Each origin is at least the one before; not so if the first symbol of a mark had the last position.
@@ -227,7 +298,7 @@ fn origins_never_fall() {
         let book = book::read(&bytes, Reading::TRUE).expect("a valid book");
         let taken = Stretches::plainly(&book, &tape, Reading::TRUE).taken;
         let fall = |reading: Reading| {
-            let origins = second::output::output(&book, &tape, &taken, reading).origins;
+            let origins = output::output(&book, &tape, &taken, reading).origins;
             origins.windows(2).any(|pair| pair[0] > pair[1])
         };
         assert!(!fall(Reading::TRUE), "book {number}");

@@ -1,5 +1,5 @@
 //! The hand-worked table of document 01, the account of case 8, and the program's example; lines have the sixth word of
-//! document 02, No. 1. Beside the table stand rows of our own for document 02, No. 4.
+//! document 02, No. 1. Beside the table stand rows of our own for document 02, No. 4 and No. 5.
 
 use second::account::{Line, WORDS_A_LINE};
 use second::answer::Answer;
@@ -120,6 +120,166 @@ fn three_lines_of_the_contacts() {
     accounts_for(&hand::contacts(), &digits(CONTACTS), &[[0, 1, 5, 0, 1, 0], [1, 6, 8, 0, 6, 1], [0, 8, 10, 0, 8, 0]]);
 }
 
+/// Document 02, No. 5: rows of our own, each with its account.
+struct Row<'a> {
+    /// Left, focus and right word and replacement of each rule; an empty left or right word is no condition.
+    rules: &'a [[&'a str; 4]],
+    tape: &'a str,
+    output: &'a str,
+    origins: &'a [u16],
+    lines: &'a [Line],
+}
+
+const INSERTED: [Row; 13] = [
+    // At the tape's front, between, at its end, at each place, into the empty tape.
+    Row {
+        rules: &[["", "", "1", "9"]],
+        tape: "123",
+        output: "9123",
+        origins: &[0, 0, 1, 2],
+        lines: &[[0, 0, 0, 0, 0, 0]],
+    },
+    Row {
+        rules: &[["1", "", "2", "9"]],
+        tape: "0120",
+        output: "01920",
+        origins: &[0, 1, 2, 2, 3],
+        lines: &[[0, 2, 2, 0, 2, 0]],
+    },
+    Row {
+        rules: &[["3", "", "", "9"]],
+        tape: "123",
+        output: "1239",
+        origins: &[0, 1, 2, 3],
+        lines: &[[0, 3, 3, 0, 3, 0]],
+    },
+    Row {
+        rules: &[["", "", "", "9"]],
+        tape: "12",
+        output: "91929",
+        origins: &[0, 0, 1, 1, 2],
+        lines: &[[0, 0, 0, 0, 0, 0], [0, 1, 1, 0, 1, 0], [0, 2, 2, 0, 2, 0]],
+    },
+    Row {
+        rules: &[["", "", "", "9876"]],
+        tape: "",
+        output: "9876",
+        origins: &[0, 0, 0, 0],
+        lines: &[[0, 0, 0, 0, 0, 0]],
+    },
+    // Words of two symbols and of eight have their position throughout; an empty one is inserted too.
+    Row {
+        rules: &[["2", "", "", "98"]],
+        tape: "121",
+        output: "12981",
+        origins: &[0, 1, 2, 2, 2],
+        lines: &[[0, 2, 2, 0, 2, 0]],
+    },
+    Row {
+        rules: &[["2", "", "", "01234567"]],
+        tape: "12",
+        output: "1201234567",
+        origins: &[0, 1, 2, 2, 2, 2, 2, 2, 2, 2],
+        lines: &[[0, 2, 2, 0, 2, 0]],
+    },
+    Row { rules: &[["1", "", "", ""]], tape: "12", output: "12", origins: &[0, 1], lines: &[[0, 1, 1, 0, 1, 0]] },
+    // At the end of a taken stretch; inside one.
+    Row {
+        rules: &[["", "12", "", "7"], ["2", "", "", "9"]],
+        tape: "0123",
+        output: "0793",
+        origins: &[0, 1, 3, 3],
+        lines: &[[0, 1, 3, 0, 1, 0], [1, 3, 3, 0, 3, 1]],
+    },
+    Row {
+        rules: &[["1", "", "", "9"], ["", "12", "", "78"]],
+        tape: "0123",
+        output: "0783",
+        origins: &[0, 1, 2, 3],
+        lines: &[[1, 1, 3, 0, 1, 1], [0, 2, 2, 3, 1, 1]],
+    },
+    // Shorter than another at its start; of two rules the lowest; a stretch is taken right after the symbol kept.
+    Row {
+        rules: &[["", "", "1", "9"], ["", "1", "", "7"]],
+        tape: "010",
+        output: "070",
+        origins: &[0, 1, 2],
+        lines: &[[0, 1, 1, 1, 1, 1], [1, 1, 2, 0, 1, 1]],
+    },
+    Row {
+        rules: &[["", "3", "", ""], ["1", "", "", "9"], ["", "", "2", "8"]],
+        tape: "12",
+        output: "192",
+        origins: &[0, 1, 1],
+        lines: &[[1, 1, 1, 0, 1, 1], [2, 1, 1, 2, 1, 1]],
+    },
+    Row {
+        rules: &[["0", "", "", "9"], ["", "23", "", "7"]],
+        tape: "0123",
+        output: "0917",
+        origins: &[0, 1, 1, 2],
+        lines: &[[0, 1, 1, 0, 1, 0], [1, 2, 4, 0, 2, 1]],
+    },
+];
+
+#[test]
+fn marks_put_in() {
+    for Row { rules, tape, output, origins, lines } in INSERTED {
+        let part = |word: &str| Part::word(&digits(word));
+        let rule =
+            |[left, focus, right, word]: &[&str; 4]| Rule::new(part(left), part(focus), part(right), &digits(word));
+        let book = draft::book(&rules.iter().map(rule).collect::<Vec<_>>());
+        works_out(&format!("{rules:?} on {tape}"), &book, &digits(tape), &digits(output), origins);
+        accounts_for(&book, &digits(tape), lines);
+        let taken = lines.iter().filter(|line| line[3] == 0).count();
+        assert_eq!(answered(Operation::Rewrite, &book, &digits(tape)).counts[1], taken as u64, "{rules:?} on {tape}");
+    }
+}
+
+/// Any number of 1's to 9: two of them are taken, and empty stretches before and after, also right at their end.
+#[test]
+fn a_focus_of_any_length() {
+    let book = draft::book(&[Rule::new(Part::any(), Part::any().with_arc(0, 1, 1, 0), Part::any(), &[9])]);
+    works_out("any number of 1's", &book, &digits("2112"), &digits("929929"), &[0, 0, 1, 3, 3, 4]);
+    let lines = [
+        [0, 0, 0, 0, 0, 0],
+        [0, 1, 1, 1, 1, 0],
+        [0, 1, 2, 1, 1, 0],
+        [0, 1, 3, 0, 1, 0],
+        [0, 2, 2, 3, 1, 0],
+        [0, 2, 3, 3, 1, 0],
+        [0, 3, 3, 0, 3, 0],
+        [0, 4, 4, 0, 4, 0],
+    ];
+    accounts_for(&book, &digits("2112"), &lines);
+}
+
+/// Before the finish at the front 7; 234 is a turn, and 6 is put in at its end; the mark after the turn wins over the 7
+/// before the finish; 24 wins over the mark after the turn before it; at the tape's end a mark once more.
+const LAPS: &str = "9234898248";
+
+#[test]
+fn laps() {
+    let origins = [0, 0, 1, 4, 4, 5, 5, 5, 6, 7, 9, 9, 10, 10];
+    works_out("laps", &hand::laps(), &digits(LAPS), &digits("79868bc98868bc"), &origins);
+    assert_eq!(answered(Operation::Rewrite, &hand::laps(), &digits(LAPS)).counts, [14, 7, 0, 0]);
+    let lines = [
+        [3, 0, 0, 0, 0, 3],
+        [1, 1, 4, 0, 1, 1],
+        [2, 2, 2, 3, 1, 1],
+        [2, 3, 3, 3, 1, 1],
+        [2, 4, 4, 0, 4, 2],
+        [0, 5, 5, 0, 5, 0],
+        [3, 5, 5, 2, 5, 0],
+        [0, 7, 7, 1, 7, 1],
+        [1, 7, 9, 0, 7, 1],
+        [2, 8, 8, 3, 7, 1],
+        [2, 9, 9, 0, 9, 2],
+        [0, 10, 10, 0, 10, 0],
+    ];
+    accounts_for(&hand::laps(), &digits(LAPS), &lines);
+}
+
 /// Rule 0 x, rule 1 y, rules 2 to 4 xyz: rule 2 decides by every verdict, and neither the lowest rule nor the last one
 /// taken does.
 #[test]
@@ -174,7 +334,16 @@ fn program_at_its_edges() {
 fn show_hands_back_stretches() {
     let mut call = Call::new(Operation::Show);
     call.tape = hand::tape("aaaaaabaaab");
-    let lines = [[0, 8, 10, 0, 8, 0], [1, 5, 7, 3, 1, 0], [0, 5, 5, 0, 5, 0], [0, 10, 12, 0, 10, 0]];
+    let lines = [
+        [0, 8, 10, 0, 8, 0],
+        [1, 5, 7, 3, 1, 0],
+        [0, 5, 5, 0, 5, 0],
+        [0, 11, 11, 0, 11, 0],
+        [0, 0, 0, 0, 0, 0],
+        [0, 5, 4, 0, 5, 0],
+        [0, 10, 12, 0, 10, 0],
+        [0, 12, 12, 0, 12, 0],
+    ];
     call.account = [lines.concat(), vec![1, 10, 11, 0, 10]].concat();
     let shown = |line: u32| {
         let answer = answer(&Call { line, ..call.clone() }, Reading::TRUE);
@@ -182,9 +351,11 @@ fn show_hands_back_stretches() {
     };
     assert_eq!(shown(0), (8, 2, hand::tape("aa")));
     assert_eq!(shown(1), (5, 2, hand::tape("ab")));
-    // Start not below end, end past the tape, a line without its sixth word, no such line, numbers that could wrap
+    // "SHOW gives an empty stretch as an empty part at its start": inside the tape, at its end, at its front.
+    assert_eq!([2, 3, 4].map(shown), [5, 11, 0].map(|start| (start, 0, Vec::new())));
+    // Start above end, end past the tape twice, a line without its sixth word, no such line, numbers that could wrap
     // around: 2^31 and one more would be lines 0 and 1.
-    for line in [2, 3, 4, 5, 715_827_882, 715_827_883, 1 << 31, (1 << 31) + 1, u32::MAX] {
+    for line in [5, 6, 7, 8, 9, 715_827_882, 715_827_883, 1 << 31, (1 << 31) + 1, u32::MAX] {
         assert_eq!(shown(line), (0, 0, Vec::new()), "line {line}");
     }
 }

@@ -1,4 +1,5 @@
-//! HEAT: document 02, No. 2, by hand, and held against BUILD and one REWRITE after another; origins as No. 4 has them.
+//! HEAT: document 02, No. 2, by hand, and held against BUILD and one REWRITE after another; outputs and origins as
+//! No. 4 and No. 5 have them.
 
 use second::answer::{Answer, LaneRecord, Lent};
 use second::call::{Call, Lane, Lengths, Operation};
@@ -97,6 +98,24 @@ fn last_position_is_the_lanes_own() {
     let lent = heated(&call).lent;
     assert_eq!(lent.out[..14], [2, 4, 0, 0, 6, 7, 6, 3, 4, 5, 2, 4, 5, 0x5a]);
     assert_eq!(lent.origins[..14], [0, 3, 4, 0, 1, 1, 2, 0, 1, 0, 1, 2, 3, 0x5a5a]);
+}
+
+/// Document 02, No. 5, in each lane: 8 and 9 with what goes between them, the finish alone, the turn alone, nothing
+/// between the two, and a touch with what stands at its end.
+#[test]
+fn marks_put_in_at_the_lanes_own_ends() {
+    let bounds = [(0, 2), (1, 1), (0, 1), (1, 0), (2, 2)];
+    let call = heat(hand::laps(), &[8, 9, 2, 4], &bounds);
+    lanes_get(&call, &[(4, 1, 0, 0), (2, 1, 0, 0), (3, 1, 0, 0), (0, 0, 0, 0), (2, 2, 0, 0)]);
+    let lent = heated(&call).lent;
+    assert_eq!(lent.out[..12], [8, 11, 12, 9, 7, 9, 8, 11, 12, 8, 6, 0x5a]);
+    assert_eq!(lent.origins[..12], [0, 1, 1, 1, 0, 0, 0, 1, 1, 0, 2, 0x5a5a]);
+    // What the second lane inserts at its front wants room, and what the third inserts at its end.
+    let mut short = call.clone();
+    for (room, second, third) in [(5, (0, 0, 15, 2), (0, 0, 15, 3)), (8, (2, 1, 0, 0), (0, 0, 15, 3))] {
+        short.lengths = Lengths { out: room, origins: room, ..call.lengths };
+        assert_eq!(got(&heated(&short))[1..3], [second, third], "{room}");
+    }
 }
 
 #[test]

@@ -55,14 +55,38 @@ fn tapes_of_4096_and_4097_symbols() {
     assert_eq!((refused.reply, refused.place, refused.counts), (9, 0, [0; 4]));
 }
 
+/// Each of 4,096 symbols kept, and eight inserted at 4,097 places.
+#[test]
+fn longest_output() {
+    let mut call = Call::new(Operation::Rewrite);
+    call.book = draft::book(&[full::every_place(&[2; 8])]);
+    call.lengths = Lengths { rows: 8192, sets: 512, scratch: 4097, out: 36_872, origins: 36_872, lines: 0 };
+    call.tape = vec![1; 4096];
+    let accepted = answer(&call, Reading::TRUE);
+    assert_eq!((accepted.reply, accepted.counts), (0, [36_872, 4097, 0, 0]));
+    assert_eq!(accepted.lent.out[36_862..], [2, 1, 2, 2, 2, 2, 2, 2, 2, 2]);
+    assert_eq!(accepted.lent.origins[36_862..], [4095, 4095, 4096, 4096, 4096, 4096, 4096, 4096, 4096, 4096]);
+    call.lengths.out -= 1;
+    let refused = answer(&call, Reading::TRUE);
+    assert_eq!((refused.reply, refused.place, refused.counts), (15, 36_872, [0; 4]));
+}
+
+/// Of 16 rules on the longest tape: every stretch with a symbol, every stretch, every empty stretch.
 #[test]
 fn most_candidates_are_counted() {
     let mut call = Call::new(Operation::Account);
-    call.book = draft::book(&vec![full::every_stretch(&[]); 16]);
     call.lengths = Lengths { rows: 8192, sets: 512, scratch: 4097, lines: WORDS_A_LINE, ..Lengths::default() };
     call.tape = vec![0; 4096];
-    let answer = answer(&call, Reading::TRUE);
-    assert_eq!((answer.reply, answer.place), (15, WORDS_A_LINE as u64 * 16 * (4096 * 4097 / 2)));
+    let rules = [
+        (full::every_stretch(&[]), 4096 * 4097 / 2),
+        (full::every_stretch_and_place(&[]), 4097 * 4098 / 2),
+        (full::every_place(&[]), 4097),
+    ];
+    for (rule, stretches) in rules {
+        call.book = draft::book(&vec![rule; 16]);
+        let answer = answer(&call, Reading::TRUE);
+        assert_eq!((answer.reply, answer.place), (15, WORDS_A_LINE as u64 * 16 * stretches));
+    }
 }
 
 fn checked(records: &[Vec<u8>]) -> (u8, u64, [u64; 4]) {
@@ -82,11 +106,11 @@ fn rules_states_and_arcs() {
         let offset = records.concat().len() as u64;
         records.push(match kind {
             RULE => record::rule(&[]),
-            STATE => record::state(1, 3),
+            STATE => record::state(255, 255),
             _ => record::arc(255, 255, 255, 255),
         });
         records.push(end);
-        assert_eq!(checked(&records), (3, offset, [0; 4]), "3 comes before 5, 6 and 7");
+        assert_eq!(checked(&records), (3, offset, [0; 4]), "3 comes before 5 and 6");
     }
 }
 

@@ -41,8 +41,17 @@ fn replies_of_a_book() {
     assert_eq!(checked(arc(9, 9, 9, 9)), (4, 0));
     assert_eq!(checked(vec![4, 4, 4]), (4, 0), "4 comes before 8");
     assert_eq!(checked(with(&[]).into_iter().chain([4]).collect()), (8, 17));
-    assert_eq!(checked(with(&[state(1, 3)])), (7, 16));
-    assert_eq!(checked(with(&[state(2, 3)])), (0, 0));
+}
+
+/// Document 02, No. 5: "7 is no longer given." In each part each of the four flags stands, and 5 follows the last.
+#[test]
+fn reply_7_is_no_longer_given() {
+    for part in 0..3 {
+        for flags in 0..4 {
+            assert_eq!(checked(with(&[state(part, flags)])), (0, 0), "part {part}, flags {flags}");
+        }
+        assert_eq!(checked(with(&[state(part, 4)])), (5, 16), "part {part}");
+    }
 }
 
 #[test]
@@ -171,6 +180,36 @@ fn reply_15_leaves_workspace_and_scratch_as_acceptance_does() {
         assert_eq!((refused.reply, refused.place, refused.counts), (15, 12, [0; 4]));
         same_workspace_and_scratch(&refused, &accepted);
         assert!(refused.lent.lines.iter().all(|word| *word == 0x5a5a));
+    }
+}
+
+/// A word inserted at the tape's end, and a symbol kept at an insertion, want their room; so do the lines of both. On
+/// 10 the word stands before the 1 and at the end.
+#[test]
+fn reply_15_counts_what_is_inserted() {
+    let before_1 = Rule::new(Part::any(), Part::any(), Part::word(&[1]), &[7, 7]);
+    let after_0 = Rule::new(Part::word(&[0]), Part::any(), Part::any(), &[7, 7]);
+    let inserting = draft::book(&[before_1, after_0]);
+    let (rewriting, accounting) =
+        (call(Operation::Rewrite, inserting.clone(), &[1, 0]), call(Operation::Account, inserting, &[1, 0]));
+    for (out, origins, reply) in [(6, 6, 0), (5, 6, 15), (6, 5, 15), (4, 4, 15), (3, 3, 15), (2, 6, 15), (0, 0, 15)] {
+        let lengths = Lengths { out, origins, ..rewriting.lengths };
+        let answer = answer(&Call { lengths, ..rewriting.clone() }, Reading::TRUE);
+        let (place, counts) = if reply == 0 { (0, [6, 2, 0, 0]) } else { (6, [0; 4]) };
+        assert_eq!((answer.reply, answer.place, answer.counts), (reply, place, counts), "{out} {origins}");
+        assert_eq!(answer.lent.scratch[..3], [1, 0, 0]);
+        if reply == 0 {
+            assert_eq!((answer.lent.out, answer.lent.origins), (vec![7, 7, 1, 0, 7, 7], vec![0, 0, 0, 1, 2, 2]));
+        }
+    }
+    for (lines, reply) in [(12, 0), (11, 15), (6, 15), (0, 15)] {
+        let lengths = Lengths { lines, ..accounting.lengths };
+        let answer = answer(&Call { lengths, ..accounting.clone() }, Reading::TRUE);
+        let (place, counts) = if reply == 0 { (0, [2, 0, 0, 0]) } else { (12, [0; 4]) };
+        assert_eq!((answer.reply, answer.place, answer.counts), (reply, place, counts), "{lines}");
+        if reply == 0 {
+            assert_eq!(answer.lent.lines, [0, 0, 0, 0, 0, 0, 1, 2, 2, 0, 2, 1]);
+        }
     }
 }
 

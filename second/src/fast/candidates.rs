@@ -1,6 +1,8 @@
 //! Candidates and taken stretches with the contexts of every position known beforehand, start by start: a tape at the
 //! limits has more than a hundred million candidates.
 
+use std::ops::RangeInclusive;
+
 use super::arcs::Arcs;
 use super::language::Language;
 use crate::book::Book;
@@ -39,27 +41,31 @@ impl<'a> Candidates<'a> {
         rule.focus.ends_from(self.tape, start).into_iter().filter(|end| rule.right[*end]).collect()
     }
 
+    /// Every position and the tape's end, where an empty candidate may stand.
+    fn starts(&self) -> RangeInclusive<usize> {
+        0..=self.tape.len()
+    }
+
     fn at(&self, start: usize) -> Vec<Stretch> {
         let ends = |rule: usize| self.ends(&self.rules[rule], start).into_iter();
         (0..self.rules.len()).flat_map(|rule| ends(rule).map(move |end| Stretch { rule, start, end })).collect()
     }
 
     pub fn count(&self) -> usize {
-        (0..self.tape.len())
-            .map(|start| self.rules.iter().map(|rule| self.ends(rule, start).len()).sum::<usize>())
-            .sum()
+        self.starts().map(|start| self.rules.iter().map(|rule| self.ends(rule, start).len()).sum::<usize>()).sum()
     }
 
     pub fn all(&self) -> Vec<Stretch> {
-        (0..self.tape.len()).flat_map(|start| self.at(start)).collect()
+        self.starts().flat_map(|start| self.at(start)).collect()
     }
 
     pub fn taken(&self) -> Vec<Stretch> {
         let mut taken: Vec<Stretch> = Vec::new();
         let mut from = 0;
-        while let Some(stretch) = (from..self.tape.len()).find_map(|start| longest(&self.at(start))) {
+        while let Some(stretch) = (from..=self.tape.len()).find_map(|start| longest(&self.at(start))) {
             taken.push(stretch);
-            from = stretch.end;
+            // Past an empty stretch too: its start is not taken twice.
+            from = stretch.end.max(stretch.start + 1);
         }
         taken
     }

@@ -48,18 +48,18 @@ impl<'a> Language<'a> {
         holds
     }
 
-    /// The ends j above `begin` such that the tape from `begin` to j is in the language, smallest first.
+    /// The ends j from `begin` on such that the tape from `begin` to j is in the language, smallest first.
     pub fn ends_from(&self, tape: &[u8], begin: usize) -> Vec<usize> {
         let mut ends = Vec::new();
         let mut live = self.starts;
-        for end in begin + 1..=tape.len() {
-            live = self.arcs.step(live, tape[end - 1]);
-            if live == 0 {
-                break;
-            }
+        for end in begin..=tape.len() {
             if self.accepts(live) {
                 ends.push(end);
             }
+            if live == 0 || end == tape.len() {
+                break;
+            }
+            live = self.arcs.step(live, tape[end]);
         }
         ends
     }

@@ -8,6 +8,7 @@ use crate::chance::Chance;
 use crate::lane;
 use crate::output::output;
 use crate::reading::Reading;
+use crate::record::LONGEST_WORD;
 use crate::stretches::Stretches;
 use crate::workspace;
 
@@ -22,18 +23,14 @@ pub fn lengths(call: &Call, chance: &mut Chance) -> Lengths {
         lengths.scratch = mostly_enough(call.tape.len() + 1, chance);
     }
     if call.operation == Operation::Rewrite {
-        let needed = needed(call);
-        lengths.out = around(needed, chance);
-        lengths.origins = around(needed, chance);
+        (lengths.out, lengths.origins) = rooms_of_tape(call, chance);
     }
     if call.operation == Operation::Account {
         lengths.lines = around(needed(call), chance);
     }
     if call.operation == Operation::Heat {
         lengths.scratch = scratch_for_lanes(call, chance);
-        let needed = needed_by_lanes(call);
-        lengths.out = around_or_within(&needed, chance);
-        lengths.origins = around_or_within(&needed, chance);
+        (lengths.out, lengths.origins) = rooms_of_lanes(call, chance);
     }
     lengths
 }
@@ -80,6 +77,44 @@ fn scratch_for_lanes(call: &Call, chance: &mut Chance) -> usize {
         return mostly_enough(longest + 1, chance);
     }
     chance.pick(&lengths) + chance.below(2)
+}
+
+/// The most symbols that a tape of n can need where every stretch taken has a symbol: eight for each.
+pub fn most_replaced(n: usize) -> usize {
+    LONGEST_WORD * n
+}
+
+/// The most symbols that a tape of n can need: each kept, and eight at each position and at the end.
+pub fn most_inserted(n: usize) -> usize {
+    n + LONGEST_WORD * (n + 1)
+}
+
+/// Rooms for symbols and origins about the most that a tape of n symbols can need.
+fn about_most(n: usize, chance: &mut Chance) -> (usize, usize) {
+    let most = chance.pick(&[most_replaced(n), most_inserted(n)]);
+    let mut about = || chance.pick(&[most.saturating_sub(1), most, most + 1]);
+    (about(), about())
+}
+
+/// Rooms for symbols and origins as needed or about that much; or about the most that the tape can need.
+fn rooms_of_tape(call: &Call, chance: &mut Chance) -> (usize, usize) {
+    if chance.one_in(6) {
+        return about_most(call.tape.len(), chance);
+    }
+    let needed = needed(call);
+    (around(needed, chance), around(needed, chance))
+}
+
+/// Rooms for all lanes or some of them; or with about the most that a lane can need left for it.
+fn rooms_of_lanes(call: &Call, chance: &mut Chance) -> (usize, usize) {
+    let needed = needed_by_lanes(call);
+    if needed.is_empty() || !chance.one_in(6) {
+        return (around_or_within(&needed, chance), around_or_within(&needed, chance));
+    }
+    let last = chance.below(needed.len());
+    let before: usize = needed[..last].iter().sum();
+    let (out, origins) = about_most(lane_tapes(call)[last].len(), chance);
+    (before + out, before + origins)
 }
 
 /// Room for all lanes or about that much; or room that ends with a lane or inside one.

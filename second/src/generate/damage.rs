@@ -1,4 +1,4 @@
-//! Damaged books: every reply from 1 to 8, several faults in one record, truncation and garbage.
+//! Damaged books: every reply from 1 to 6 and 8, several faults in one record, truncation and garbage.
 
 use crate::book::{HIGHEST_SYMBOL, SYMBOLS};
 use crate::chance::Chance;
@@ -34,6 +34,7 @@ fn damage(records: &mut Vec<Vec<u8>>, chance: &mut Chance) {
         3 => records.insert(at, faulty(chance)),
         4 => spoil_field(&mut records[at], chance),
         5 => rename_states(records, chance),
+        // No fault where it stands, but the states after it get other numbers.
         6 => records.insert(at, record::state(FOCUS, BOTH)),
         7 => records.push((0..chance.between(1, 5)).map(|_| chance.byte()).collect()),
         8 => drop(records.remove(at)),
@@ -63,7 +64,7 @@ pub fn faulty_of(kind: u8, chance: &mut Chance) -> Vec<u8> {
         RULE => faulty_rule(chance),
         STATE => {
             let part = chance.weighted(&[(3, 0), (5, FOCUS), (3, 2), (1, 3), (1, 255)]);
-            let flags = chance.weighted(&[(1, 0), (1, 1), (1, 2), (6, BOTH), (1, 4), (1, 255)]);
+            let flags = chance.weighted(&[(1, 0), (1, 1), (1, 2), (3, BOTH), (1, 4), (1, 255)]);
             record::state(part, flags)
         }
         ARC => {

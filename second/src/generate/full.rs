@@ -68,7 +68,7 @@ pub fn overfilled(kind: u8, chance: &mut Chance) -> Vec<u8> {
     records.concat()
 }
 
-/// A record that only the count can refuse, or a state that would be 7.
+/// A record that only the count can refuse.
 fn record_with_one_fault(kind: u8, records: &[Vec<u8>], chance: &mut Chance) -> Vec<u8> {
     match kind {
         RULE => record::rule(&[1]),
@@ -132,8 +132,18 @@ fn ranges(named: &dyn Fn(u8) -> bool) -> Vec<(u8, u8)> {
     ranges
 }
 
-/// Every stretch is a candidate.
+/// Every stretch with a symbol is a candidate.
 pub fn every_stretch(word: &[u8]) -> Rule {
     let focus = Part::word(&[0]).with_arc(0, 0, HIGHEST_SYMBOL, 1).with_arc(1, 0, HIGHEST_SYMBOL, 1);
     Rule::new(Part::any(), focus, Part::any(), word)
+}
+
+/// Every stretch is a candidate, the empty ones too.
+pub fn every_stretch_and_place(word: &[u8]) -> Rule {
+    Rule::new(Part::any(), Part::any().with_arc(0, 0, HIGHEST_SYMBOL, 0), Part::any(), word)
+}
+
+/// The empty stretch is a candidate at every position and at the tape's end, and no other is.
+pub fn every_place(word: &[u8]) -> Rule {
+    Rule::new(Part::any(), Part::any(), Part::any(), word)
 }

@@ -1,6 +1,7 @@
 //! Sizes at every limit and one past it.
 
 use super::alphabet::Alphabet;
+use super::buffers::{most_inserted, most_replaced};
 use super::full;
 use super::heats;
 use super::tapes;
@@ -27,8 +28,9 @@ pub const LIMITS: &[Limit] = &[
     ("eight or nine places", 220, places),
     ("4,096 or 4,097 symbols", 60, long_tape),
     ("longest book sent", 30, long_book),
-    ("longest output", 20, long_output),
+    ("longest output", 40, long_output),
     ("longest account", 20, long_account),
+    ("an empty candidate everywhere", 20, every_place),
     ("many candidates", 10, |chance| every_candidate(1, chance)),
     ("most candidates", 1, |chance| every_candidate(MOST_RULES, chance)),
     ("house book", 120, house_tape),
@@ -143,7 +145,8 @@ fn long_tape(chance: &mut Chance) -> Call {
     if chance.one_in(3) {
         tapes::spoil(&mut tape, chance);
     }
-    let focus = Part::word(&[alphabet.symbol(chance), alphabet.symbol(chance)]);
+    let word = Part::word(&[alphabet.symbol(chance), alphabet.symbol(chance)]);
+    let focus = chance.weighted(&[(2, word.clone()), (1, Part::any()), (1, word.or(&Part::any()))]);
     let left = super::parts::context(&alphabet, chance);
     let right = super::parts::context(&alphabet, chance);
     let rule = Rule::new(left, focus, right, &super::rules::word(&alphabet, chance));
@@ -169,24 +172,40 @@ fn long_book(chance: &mut Chance) -> Call {
     call
 }
 
-/// Eight symbols for each of 4,096.
+/// Eight symbols for each of 4,096 or fewer; or each of these kept, and eight symbols at each place.
 fn long_output(chance: &mut Chance) -> Call {
     let word: Vec<u8> = (0..8).map(|_| chance.below(SYMBOLS) as u8).collect();
-    let rule = Rule::new(Part::any(), Part::word(&[7]), Part::any(), &word);
-    let mut call = call_with(draft::book(&[rule]), repeated(&[7], LONGEST_TAPE), chance);
+    let fewer = chance.below(40);
+    let n = chance.pick(&[LONGEST_TAPE, fewer]);
+    let replacing = (Rule::new(Part::any(), Part::word(&[7]), Part::any(), &word), most_replaced(n));
+    let (rule, needed) = chance.pick(&[replacing, (full::every_place(&word), most_inserted(n))]);
+    let mut call = call_with(draft::book(&[rule]), repeated(&[7], n), chance);
     if call.operation == Operation::Rewrite {
-        let needed = word.len() * LONGEST_TAPE;
-        call.lengths.out = needed - chance.weighted(&[(3, 0), (1, 1)]);
-        call.lengths.origins = needed - chance.weighted(&[(3, 0), (1, 1)]);
+        let mut enough = || needed.saturating_sub(chance.weighted(&[(3, 0), (1, 1)]));
+        (call.lengths.out, call.lengths.origins) = (enough(), enough());
     }
     call
 }
 
-/// Accounts of about as many words as can be lent: 208 symbols have 21,736 stretches, 130,416 words.
+/// Accounts of about as many words as can be lent: 208 symbols have 21,736 stretches, and 207 have as many with the
+/// empty ones; 130,416 words.
 fn long_account(chance: &mut Chance) -> Call {
-    let length = chance.between(206, 210);
+    let length = chance.between(205, 210);
+    let rule = chance.pick(&[full::every_stretch(&[1]), full::every_stretch_and_place(&[1])]);
+    account_of(draft::book(&[rule]), length, chance)
+}
+
+/// The empty candidates of 16 rules at each place: 65,552 on the longest tape, and on one of 1,364 symbols 21,840, for
+/// which 131,040 words can be lent.
+fn every_place(chance: &mut Chance) -> Call {
+    let length = chance.weighted(&[(1, LONGEST_TAPE), (2, 1364), (1, 1363), (1, 1365)]);
+    account_of(draft::book(&vec![full::every_place(&[1]); MOST_RULES]), length, chance)
+}
+
+/// An account with as many words as it needs, or one word less, or as many as can be lent.
+fn account_of(book: Vec<u8>, length: usize, chance: &mut Chance) -> Call {
     let mut call = Call::new(Operation::Account);
-    call.book = draft::book(&[full::every_stretch(&[1])]);
+    call.book = book;
     call.tape = (0..length).map(|_| chance.below(SYMBOLS) as u8).collect();
     call.fill = chance.byte();
     let (rows, sets) = (workspace::ROW_BYTES, workspace::SETS);
@@ -195,10 +214,12 @@ fn long_account(chance: &mut Chance) -> Call {
     call
 }
 
-/// Every stretch of the longest tape for each rule: with 16 rules 134,250,496 candidates.
+/// Every stretch of the longest tape for each rule: with 16 rules 134,250,496 candidates, and with the empty ones
+/// 134,316,048.
 fn every_candidate(rules: usize, chance: &mut Chance) -> Call {
     let mut call = Call::new(Operation::Account);
-    call.book = draft::book(&vec![full::every_stretch(&[]); rules]);
+    let rule = chance.pick(&[full::every_stretch(&[]), full::every_stretch_and_place(&[])]);
+    call.book = draft::book(&vec![rule; rules]);
     call.tape = repeated(&[1, 2], LONGEST_TAPE);
     let (rows, sets) = (workspace::ROW_BYTES, workspace::SETS);
     let lines = chance.pick(&[0, WORDS_A_LINE, crate::call::MOST_LINE_WORDS]);

@@ -1,5 +1,5 @@
-//! Calls at random: valid books with many overlapping candidates, damaged books, tapes with bad symbols, lanes inside
-//! and outside their buffer, buffers of every length, and the limits.
+//! Calls at random: valid books with many overlapping candidates, empty ones among them or none, damaged books, tapes
+//! with bad symbols, lanes inside and outside their buffer, buffers of every length, and the limits.
 
 pub mod accounts;
 pub mod alphabet;

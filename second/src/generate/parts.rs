@@ -16,7 +16,7 @@ pub fn context(alphabet: &Alphabet, chance: &mut Chance) -> Part {
     }
 }
 
-/// A focus part: "a focus is never empty", so no state has flags 3.
+/// A focus part without a state with flags 3, so that it does not accept the empty word.
 pub fn focus(alphabet: &Alphabet, chance: &mut Chance) -> Part {
     match chance.weighted(&[(10, 0), (12, 1), (16, 2), (8, 3), (1, 4)]) {
         0 => chain(alphabet, 1, 4, chance),
@@ -24,6 +24,21 @@ pub fn focus(alphabet: &Alphabet, chance: &mut Chance) -> Part {
         2 => joined(alphabet, &[NEITHER, START, ACCEPT], chance),
         3 => chain(alphabet, 1, 2, chance).or(&chain(alphabet, 1, 3, chance)),
         _ => Part::none(),
+    }
+}
+
+/// A focus part that accepts the empty word, alone or beside others. Document 02, No. 5: "The focus may now be empty".
+pub fn empty_focus(alphabet: &Alphabet, chance: &mut Chance) -> Part {
+    match chance.weighted(&[(12, 0), (6, 1), (6, 2), (6, 3)]) {
+        0 => Part::any(),
+        1 => looped(Part::any(), alphabet, chance),
+        2 => focus(alphabet, chance).or(&Part::any()),
+        _ => {
+            let mut part = joined(alphabet, &[NEITHER, START, ACCEPT, BOTH], chance);
+            let both = chance.below(part.flags.len());
+            part.flags[both] = BOTH;
+            part
+        }
     }
 }
 

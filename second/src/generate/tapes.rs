@@ -26,7 +26,7 @@ pub fn tape(rules: &[Rule], alphabet: &Alphabet, chance: &mut Chance) -> Vec<u8>
 
 fn length(chance: &mut Chance) -> usize {
     let (shortest, longest) =
-        chance.weighted(&[(2, (0, 0)), (10, (1, 4)), (30, (5, 12)), (12, (13, 30)), (3, (31, 80)), (1, (81, 300))]);
+        chance.weighted(&[(3, (0, 0)), (10, (1, 4)), (30, (5, 12)), (12, (13, 30)), (3, (31, 80)), (1, (81, 300))]);
     chance.between(shortest, longest)
 }
 
