@@ -1,4 +1,4 @@
-//! The book reader: document 01, "The book" and replies 1 to 8, of which document 02, No. 5, retires 7.
+//! The book reader: document 01, "The book" and replies 1 to 8; by document 02, No. 5, "7 is no longer given".
 
 use crate::reading::{Reading, Wrong};
 use crate::record::{self, ACCEPT, ARC, BOTH, END, FOCUS, LONGEST_WORD, RIGHT, RULE, START, STATE};

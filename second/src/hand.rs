@@ -66,7 +66,7 @@ pub fn contacts() -> Vec<u8> {
 /// rule 1 press, any number of holds and release to turn; rule 2 inserts 6 after each of these three; rule 3 inserts 7
 /// before a finish.
 pub fn laps() -> Vec<u8> {
-    let nothing = Part::any();
+    let nothing = Part::word(&[]);
     let touched = Part { flags: vec![START, ACCEPT], arcs: Vec::new() }.with_arc(0, 2, 4, 1);
     draft::book(&[
         Rule::new(Part::word(&[8]), nothing.clone(), Part::any(), &[11, 12]),

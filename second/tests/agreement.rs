@@ -39,7 +39,7 @@ fn up_to_256_sets_and_past_them() {
 
 #[test]
 fn tapes_longer_than_are_read_plainly() {
-    let mut candidates = 0;
+    let (mut candidates, mut inserted, mut at_end) = (0, 0, 0);
     for number in 0..30 {
         let chance = &mut Chance::of(8, number);
         let alphabet = Alphabet::of(chance);
@@ -53,6 +53,8 @@ fn tapes_longer_than_are_read_plainly() {
         let sets: Vec<u64> = (0..=length).map(|i| right_set(&book, &tape, i, Reading::TRUE)).collect();
         assert_eq!(sets, fast::sets::right_sets(&book, &tape), "book {number}");
         candidates += plain.count;
+        inserted += plain.taken.iter().filter(|taken| taken.is_empty()).count();
+        at_end += plain.taken.iter().filter(|taken| taken.start == length).count();
     }
-    assert!(candidates > 1000, "{candidates}");
+    assert!(candidates > 1000 && inserted > 200 && at_end > 5, "{candidates} {inserted} {at_end}");
 }

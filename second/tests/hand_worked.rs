@@ -239,7 +239,7 @@ fn marks_put_in() {
 /// Any number of 1's to 9: two of them are taken, and empty stretches before and after, also right at their end.
 #[test]
 fn a_focus_of_any_length() {
-    let book = draft::book(&[Rule::new(Part::any(), Part::any().with_arc(0, 1, 1, 0), Part::any(), &[9])]);
+    let book = draft::book(&[Rule::new(Part::any(), Part::word(&[]).with_arc(0, 1, 1, 0), Part::any(), &[9])]);
     works_out("any number of 1's", &book, &digits("2112"), &digits("929929"), &[0, 0, 1, 3, 3, 4]);
     let lines = [
         [0, 0, 0, 0, 0, 0],

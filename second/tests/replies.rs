@@ -187,8 +187,8 @@ fn reply_15_leaves_workspace_and_scratch_as_acceptance_does() {
 /// 10 the word stands before the 1 and at the end.
 #[test]
 fn reply_15_counts_what_is_inserted() {
-    let before_1 = Rule::new(Part::any(), Part::any(), Part::word(&[1]), &[7, 7]);
-    let after_0 = Rule::new(Part::word(&[0]), Part::any(), Part::any(), &[7, 7]);
+    let before_1 = Rule::new(Part::any(), Part::word(&[]), Part::word(&[1]), &[7, 7]);
+    let after_0 = Rule::new(Part::word(&[0]), Part::word(&[]), Part::any(), &[7, 7]);
     let inserting = draft::book(&[before_1, after_0]);
     let (rewriting, accounting) =
         (call(Operation::Rewrite, inserting.clone(), &[1, 0]), call(Operation::Account, inserting, &[1, 0]));

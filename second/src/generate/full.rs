@@ -140,10 +140,10 @@ pub fn every_stretch(word: &[u8]) -> Rule {
 
 /// Every stretch is a candidate, the empty ones too.
 pub fn every_stretch_and_place(word: &[u8]) -> Rule {
-    Rule::new(Part::any(), Part::any().with_arc(0, 0, HIGHEST_SYMBOL, 0), Part::any(), word)
+    Rule::new(Part::any(), Part::word(&[]).with_arc(0, 0, HIGHEST_SYMBOL, 0), Part::any(), word)
 }
 
 /// The empty stretch is a candidate at every position and at the tape's end, and no other is.
 pub fn every_place(word: &[u8]) -> Rule {
-    Rule::new(Part::any(), Part::any(), Part::any(), word)
+    Rule::new(Part::any(), Part::word(&[]), Part::any(), word)
 }

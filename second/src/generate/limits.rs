@@ -146,7 +146,7 @@ fn long_tape(chance: &mut Chance) -> Call {
         tapes::spoil(&mut tape, chance);
     }
     let word = Part::word(&[alphabet.symbol(chance), alphabet.symbol(chance)]);
-    let focus = chance.weighted(&[(2, word.clone()), (1, Part::any()), (1, word.or(&Part::any()))]);
+    let focus = chance.weighted(&[(2, word.clone()), (1, Part::word(&[])), (1, word.or(&Part::word(&[])))]);
     let left = super::parts::context(&alphabet, chance);
     let right = super::parts::context(&alphabet, chance);
     let rule = Rule::new(left, focus, right, &super::rules::word(&alphabet, chance));

@@ -30,9 +30,9 @@ pub fn focus(alphabet: &Alphabet, chance: &mut Chance) -> Part {
 /// A focus part that accepts the empty word, alone or beside others. Document 02, No. 5: "The focus may now be empty".
 pub fn empty_focus(alphabet: &Alphabet, chance: &mut Chance) -> Part {
     match chance.weighted(&[(12, 0), (6, 1), (6, 2), (6, 3)]) {
-        0 => Part::any(),
-        1 => looped(Part::any(), alphabet, chance),
-        2 => focus(alphabet, chance).or(&Part::any()),
+        0 => Part::word(&[]),
+        1 => looped(Part::word(&[]), alphabet, chance),
+        2 => focus(alphabet, chance).or(&Part::word(&[])),
         _ => {
             let mut part = joined(alphabet, &[NEITHER, START, ACCEPT, BOTH], chance);
             let both = chance.below(part.flags.len());
