@@ -1,4 +1,5 @@
-/* The house book and the lane-four wave through the C face: every function once, then what three refusals leave, and the times of a touch. */
+/* The house book and the lane-four wave through the C face: every function once, then what three refusals leave, the times of a touch, and a lap mark
+ * that is put in. */
 #include <stdio.h>
 #include <stdlib.h>
 
@@ -136,5 +137,31 @@ int main(void)
     for (size_t k = 0; k < w.length; k++)
         printf(" %d at %.2f", out[k], seconds[origins[k]]);
     printf("\n");
+
+    /* a lap mark, 11, between a turn and the next event: rule 0 has an empty focus, after press, any number of holds, release and before a push; rule 1
+     * makes these a turn, 8. A word may be put in at the tape's end, so the clock has a time for that too. */
+    static const uint8_t laps[] = {
+        1, 1, 11, 0, 0, 0, 0, 0, 0, 0, 2, 0, 1, 2, 0, 0, 2, 0, 2, 2, 1, 3, 2, 2, 1, 2, 2, 2,
+        3, 0, 2, 2, 1, 3, 1, 3, 3, 1, 3, 1, 4, 4, 2, 3, 4, 5, 5, 5,
+        1, 1, 8, 0, 0, 0, 0, 0, 0, 0, 2, 0, 3, 2, 1, 1, 2, 1, 0, 2, 1, 2, 2, 2, 1, 2, 2, 2,
+        3, 7, 2, 2, 8, 3, 8, 3, 3, 8, 3, 8, 4, 4, 9, 3, 10, 5, 5, 11, 4,
+    };
+    static const uint8_t turn[] = {0, 2, 3, 4, 5, 0};
+    static const double clock[] = {58.10, 58.42, 58.50, 58.71, 58.77, 59.02, 59.10};
+    w = rewrite_by(laps, sizeof laps, turn, sizeof turn, OUT);
+    say("lap", w.reply, QAFRENDI_ACCEPTED, w.place);
+    printf(", %zu taken;", w.taken);
+    for (size_t k = 0; k < w.length; k++)
+        printf(" %d at %.2f", out[k], clock[origins[k]]);
+    printf("\n");
+    a = qafrendi_account(
+        laps, sizeof laps, turn, sizeof turn, rows, QAFRENDI_ROW_BYTES, sets, QAFRENDI_SET_WORDS, scratch, QAFRENDI_SCRATCH, lines, WORDS);
+    say("lap account", a.reply, QAFRENDI_ACCEPTED, a.place);
+    printf(", %zu candidates\n", a.candidates);
+    for (size_t line = 0; line < a.candidates; line++) {
+        qafrendi_stretch s = qafrendi_show(sizeof turn, lines, QAFRENDI_LINE_WORDS * a.candidates, line);
+        printf("lap line %zu: rule %d from %zu to %zu, verdict %d\n", line, lines[QAFRENDI_LINE_WORDS * line + QAFRENDI_RULE], s.start, s.end,
+               lines[QAFRENDI_LINE_WORDS * line + QAFRENDI_VERDICT]);
+    }
     return 0;
 }

@@ -11,7 +11,7 @@
  *
  * Every answer has a reply and a place; the replies are listed below, with the place that each gives.
  *
- * Tested in this order: records from the front, in one record a missing kind 1, then 2, a cut body 1, then 4, 3, 5, 6, 7; after the
+ * Tested in this order: records from the front, in one record a missing kind 1, then 2, a cut body 1, then 4, 3, 5, 6; after the
  * book 9, 10, 11, 12, 13, 14, 15. Counts are 0 on every refusal. 1 to 12 change no buffer. 13 and 14 leave the workspace all 0 and
  * nothing else changed. 15 leaves workspace and scratch as acceptance does, and the output, the origins and the account unchanged.
  * What stood in workspace and scratch before never matters.
@@ -40,7 +40,8 @@ enum {
     QAFRENDI_ROW_BYTES = 2 * QAFRENDI_SYMBOLS * QAFRENDI_MOST_SETS, /* both sides, left and then right */
     QAFRENDI_SET_WORDS = 2 * QAFRENDI_MOST_SETS,
     QAFRENDI_SCRATCH = QAFRENDI_LONGEST_TAPE + 1,
-    QAFRENDI_LONGEST_OUT = QAFRENDI_LONGEST_WORD * QAFRENDI_LONGEST_TAPE,
+    /* 9 n + 8: a longest word put in at each position, the tape's end among them, and each symbol kept */
+    QAFRENDI_LONGEST_OUT = QAFRENDI_LONGEST_WORD * (QAFRENDI_LONGEST_TAPE + 1) + QAFRENDI_LONGEST_TAPE,
     QAFRENDI_LINE_WORDS = 6,
     QAFRENDI_MOST_LANES = 10,
     QAFRENDI_STACK = 2048
@@ -55,7 +56,7 @@ enum {
     QAFRENDI_NO_RULE = 4,          /* state, arc or end before any rule                                    offset */
     QAFRENDI_BAD_FIELD = 5,        /* a field outside its range, a symbol above 15, lowest above highest   offset */
     QAFRENDI_BAD_ARC = 6,          /* an arc names a state not yet given in the latest rule, or two parts  offset */
-    QAFRENDI_EMPTY_FOCUS = 7,      /* a focus state has flags 3                                            offset */
+    QAFRENDI_EMPTY_FOCUS = 7,      /* retired, and never given again: a focus may be empty                 */
     QAFRENDI_AFTER_END = 8,        /* a byte follows the end record                                        its offset */
     QAFRENDI_LONG_TAPE = 9,        /* tape longer than 4,096                                               0 */
     QAFRENDI_BAD_SYMBOL = 10,      /* a tape symbol above 15                                               first such position */
@@ -135,13 +136,15 @@ qafrendi_built qafrendi_build(
     uint8_t *rows, size_t rows_length,
     uint64_t *sets, size_t sets_length);
 
-/* REWRITE: the tape with each taken stretch replaced by its rule's word; the output's length and the number of stretches taken.
+/* REWRITE: the tape with each taken stretch replaced by its rule's word; the output's length and the number of stretches taken. Where a rule's
+ * focus is empty its word is put in and nothing is removed: between two symbols, before the first, after the last.
  * All replies.
  * Needs the workspace as BUILD does (it builds it from the book, whatever stands there), scratch of tape_length + 1 elements or
- * more, and room for the output: tape_length symbols where no word is longer than a focus, never more than 8 a symbol.
+ * more, and room for the output: tape_length symbols where no word is longer than its stretch, never more than 9 * tape_length + 8.
  * Writes the workspace; scratch 0 to tape_length, the number of the right set at each position; and, accepted, the first `length`
  * elements of out (symbols) and of origins: positions of the tape, whose times the symbols have. A kept symbol has its own; of a word each
- * symbol has the start of its stretch, but that the last of two or more has the stretch's last position. No origin is below one before it.
+ * symbol has the start of its stretch, but that the last of two or more has the stretch's last position. Each symbol of a word that is put in has the
+ * position of the symbol after it, and tape_length at the tape's end. No origin is below one before it.
  * Never touches the book, the tape, nor the elements past those. */
 qafrendi_rewritten qafrendi_rewrite(
     const uint8_t *book, size_t book_length,
@@ -155,7 +158,7 @@ qafrendi_rewritten qafrendi_rewrite(
 /* ACCOUNT: every stretch that any rule could have replaced, and what became of it; the number of candidates. All replies.
  * Needs workspace and scratch as REWRITE does, and QAFRENDI_LINE_WORDS words a candidate.
  * Writes workspace and scratch as REWRITE does, and, accepted, the first QAFRENDI_LINE_WORDS * candidates words of lines: a line a
- * candidate, in the order of start, end, rule.
+ * candidate, in the order of start, end, rule. Start and end are equal where nothing would be removed.
  * Never touches the book, the tape, nor the elements past those. */
 qafrendi_accounted qafrendi_account(
     const uint8_t *book, size_t book_length,
@@ -166,7 +169,7 @@ qafrendi_accounted qafrendi_account(
     uint16_t *lines, size_t lines_length);
 
 /* SHOW: the stretch of a tape that a line of an account names, from start up to and not including end; lines count from 0. If the
- * line is not wholly inside the account, or its start is not below its end, or its end is past the tape, start and end are 0.
+ * line is not wholly inside the account, or its start is above its end, or its end is past the tape, start and end are 0.
  * Always start <= end <= tape_length. Needs nothing, writes nothing. */
 qafrendi_stretch qafrendi_show(size_t tape_length, const uint16_t *lines, size_t lines_length, size_t line);
 
