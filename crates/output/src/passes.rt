@@ -173,9 +173,9 @@ fn write_position(
 
 // What the writing pass has counted.
 pub struct Size {
-    // The output's length, at most that of the longest word for each symbol of the tape.
+    // The output's length, at most what `longest_output` says: both buffers have room for it.
     pub length: usize,
-    // The stretches taken, at most one a symbol.
+    // The stretches taken, at most one a position.
     pub taken: usize,
 }
 

@@ -1,4 +1,4 @@
--- For every batch, empty foci too: the stretches taken are those of C_LML and of document 01's sentence as request 5 widens it. Assumes nothing.
+-- For every batch, empty foci too: the stretches taken are those of C_LML and of document 01's sentence as document 02, No. 5, widens it. Assumes nothing.
 use Prim.Native.Nat.{ℕ, zero, suc, _+_, _<_}
 use mathlib.Core.List.{List, [], _∷_, _++_, List·Memᴰ, List·Memᴰ·head, List·Memᴰ·not-nil, List·Memᴰ·eq-of-singleton}
 use mathlib.Core.Bool.{true, false, _&&_}

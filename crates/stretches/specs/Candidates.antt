@@ -1,6 +1,6 @@
 -- Document 01, "Which stretches are replaced". These definitions compute; Paper.antt and Sentences.antt say the same in the words of
--- source document 001 and of document 01, and crates/rewriter/proofs/Claims.antt has the theorems that it is the same. A candidate may be empty
--- (i = j) and the walk visits the tape's end too: in the base no focus is empty (reply 7; proofs/NoEmpty.antt).
+-- source document 001 and of document 01, and crates/rewriter/proofs/Claims.antt has the theorems that it is the same. Document 02,
+-- No. 5: "The focus may now be empty and a candidate's start equal its end"; so the walk visits the tape's end too.
 use Prim.Native.Nat.{ℕ, suc, _-_}
 use mathlib.Core.List.{List, [], _∷_, _++_}
 use mathlib.Core.Bool.{Bool, true, false, _&&_, cond}

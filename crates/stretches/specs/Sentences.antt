@@ -1,5 +1,5 @@
 -- Document 01's sentences on taken starts, verdicts, order, output and origins, as statements over the candidates; no contract uses them.
--- "No start is taken twice" is request 5's (document 02).
+-- "No start is taken twice" is of document 02, No. 5.
 use Prim.Native.Nat.{ℕ, zero, suc, _+_, _-_, _≤_, _<_}
 use mathlib.Core.List.{List, [], _∷_, _++_, List·Memᴰ}
 use mathlib.Core.Bool.{Bool, true, false, _&&_, cond}
