@@ -3,14 +3,14 @@ use Prim.Native.Nat.{ℕ, zero, suc, _+_, _-_, _≤_, _<_, min}
 use native.Mathlib.Decide.{decLt}
 use mathlib.Core.Path.{_≡_, sym, subst, _∙_}
 use mathlib.Core.List.{List, [], _∷_, _++_, map, List·Memᴰ, List·Memᴰ·head, List·Memᴰ·tail}
-use mathlib.Core.Bool.{true, not, _&&_, false≢true}
+use mathlib.Core.Bool.{true, not}
 use native.Mathlib.Omega.{arith}
 use lib.ListN.{length, getD, drop, length-take, length-append, List·getD-append, List·getD-map}
 use lib.Seq.{getD-take, getD-drop}
 use lib.Dec.{leb, ltb, eqb}
 use borrow.Author.Tests.{ltb-true, ltb-false, leb-false, eqb-true, eqb-false, not-false, lt-ltb}
 use Rattle.book.specs.Language.{noState, stateOf}
-use Rattle.book.specs.Format.{symbolCount, mostRules, mostStates, mostArcs, longestWord, ruleKind, stateKind, arcKind, focusPart, rightPart}
+use Rattle.book.specs.Format.{symbolCount, mostRules, mostStates, mostArcs, longestWord, ruleKind, stateKind, arcKind, rightPart}
 use Rattle.book.specs.Format.{bothFlags, lengthAt, symbolsAt, partAt, flagsAt, fromAt, lowAt, highAt, toAt, byte, symbolFits, symbolsFit}
 use Rattle.book.specs.Format.{ruleReply, stateReply, given, arcReply, kindReply, recordReply}
 use Rattle.book.specs.Reading.{State, Arc, Book, empty, partOf, scanOf, wordAt, stateAt, arcAt, withRule, withState, withArc, withRecord}

@@ -53,7 +53,7 @@ module _ (book t rows sets scratch out₀ org₀ : List ℕ) (ready : Ready book
 
     -- the marks w come next, and then f
     module _ (w f : List Mark) (cut : coming book t i ≡ w ++ f) where
-      pub marks-fit : length (rewriting (rulesIn book) t) ≤ length out₀ → length (rewriting (rulesIn book) t) ≤ length org₀ → MarksFit w at out org
+      marks-fit : length (rewriting (rulesIn book) t) ≤ length out₀ → length (rewriting (rulesIn book) t) ≤ length org₀ → MarksFit w at out org
       marks-fit g h =
           let n = was .counted .lens in
           let m = ap length cut ∙ length-append w f in

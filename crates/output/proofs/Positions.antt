@@ -5,7 +5,7 @@ use native.Mathlib.Omega.{arith}
 use mathlib.Core.Path.{_≡_, refl, sym, _∙_, ap}
 use mathlib.Core.Logic.{_≢_}
 use mathlib.Core.Bool.{true, false}
-use mathlib.Core.List.{List, [], _∷_, _++_, append-nil}
+use mathlib.Core.List.{List, [], _∷_, _++_}
 use lib.Bits.{bitAnd, and-zero-l}
 use lib.ListN.{length, getD, length-append}
 use Rattle.book.specs.Reading.{wordAt, checkDef, bookOf}
@@ -32,12 +32,12 @@ use Rattle.stretches.proofs.Along.{takes-in, takes-none, takes-one, takes-free,
 
 -- ---- marks in both buffers
 
-pub put-nothing : (ms : List Mark) (at : ℕ) (out org : List ℕ) → ms ≡ [] → MarksPut ms at out org at out org
+put-nothing : (ms : List Mark) (at : ℕ) (out org : List ℕ) → ms ≡ [] → MarksPut ms at out org at out org
 put-nothing ms at out org e = rw e (record { next = omega arith; outs = put-nil out at; orgs = put-nil org at })
 
 -- some marks, then others
 module _ (w k : List Mark) (at : ℕ) (out org : List ℕ) (room : MarksFit (w ++ k) at out org) where
-  pub fit-first : MarksFit w at out org
+  fit-first : MarksFit w at out org
   fit-first = record { outs = omega (arith, room .outs, length-append w k); orgs = omega (arith, room .orgs, length-append w k) }
 
   module _ (at₁ : ℕ) (out₁ org₁ : List ℕ) (one : MarksPut w at out org at₁ out₁ org₁) where

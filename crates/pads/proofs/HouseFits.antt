@@ -9,7 +9,7 @@ use lib.Dec.{T}
 use lib.ListN.{length}
 use Rattle.book.specs.Format.{focusPart, startFlag, acceptFlag, recordSize, symbolFits, symbolsFit, ruleReply, stateReply, given, arcReply, endReply, kindReply}
 use Rattle.book.specs.Format.{recordReply}
-use Rattle.book.specs.Reading.{withRecord, readFrom, readBook, checkDef, bookOf}
+use Rattle.book.specs.Reading.{withRecord, readFrom, readBook, bookOf}
 use Rattle.book.specs.Language.{flagged, rulesIn}
 use Rattle.book.specs.StateSets.{encode}
 use Rattle.book.specs.Outline.{allMask}

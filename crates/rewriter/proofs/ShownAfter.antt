@@ -3,11 +3,9 @@ use Prim.Native.Nat.{ℕ, zero, suc, _-_, _*_, _≤_, _<_}
 use mathlib.Core.List.{List, [], _∷_}
 use mathlib.Core.Path.{_≡_, refl, sym, ap, _∙_}
 use native.Mathlib.Omega.{arith}
-use borrow.Author.Tests.{eqb-true}
 use lib.Dec.{eqb, leb}
 use lib.ListN.{length, take, drop}
 use lib.Seq.{slice}
-use Rattle.book.specs.Reading.{checkDef}
 use Rattle.book.specs.Language.{rulesIn}
 use Rattle.stretches.specs.Account.{Line, account, lineLength}
 use Rattle.stretches.specs.Sentences.{lineNumber}
@@ -16,7 +14,6 @@ use Rattle.rewriter.specs.Replies.{readyDef, AfterAccount, accountDef}
 use Rattle.rewriter.specs.Show.{between, boundsOf, partOf, showDef}
 use Rattle.stretches.proofs.Sorting.{number-in}
 use Rattle.stretches.proofs.Accounts.{account-candidates}
-use Rattle.rewriter.proofs.MakeReady.{ready}
 use Rattle.stretches.proofs.Lists.{by-test}
 use Rattle.rewriter.proofs.Showing.{bounds-line}
 

@@ -8,7 +8,7 @@ use lib.ListN.{length, drop, getD, drop-of-length-le}
 use lib.Seq.{drop-cons}
 use Rattle.stretches.specs.Lists.{greatest}
 
-pub greatest-least : (l : List ℕ) (n : ℕ) → n ≤ greatest n l
+greatest-least : (l : List ℕ) (n : ℕ) → n ≤ greatest n l
 unfolding greatest
 greatest-least [] n = omega arith
 greatest-least (x ∷ l) n = let h = greatest-least l (max n x) in omega arith

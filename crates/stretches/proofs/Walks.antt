@@ -103,7 +103,7 @@ module _ (b : Rules) (t : List ℕ) where
       let l = z .2 in
       record { rule = z .0; cand = record { ordered = h; inside = k; known = omega arith; holds = z .3 } }
 
-  pub test-some : (i j : ℕ) → Some b t i j → T (someRule b t i j)
+  test-some : (i j : ℕ) → Some b t i j → T (someRule b t i j)
   test-some i j s = let c = s .cand in any-up (candidate b t i j) 0 (length (b .words)) .1 (s .rule, omega arith, let e = c .known in omega arith, c .holds)
 
   pub longest-low : (i : ℕ) → i ≤ longest b t i
@@ -130,7 +130,7 @@ module _ (b : Rules) (t : List ℕ) where
       let d = c .inside in
       last-reach (someRule b t i) i (suc (length t) - i) i j a (omega arith) (test-some i j s)
 
-  pub some-far : (i : ℕ) → i < longest b t i → Some b t i (longest b t i)
+  some-far : (i : ℕ) → i < longest b t i → Some b t i (longest b t i)
   some-far i h =
       let g : i ≤ length t = by-cases (decLe i (length t)) (λ g. g) (λ g. let e = longest-out i (omega arith) in absurd (omega arith)) in
       some-test i (longest b t i) (omega arith) (longest-high i g) (⊎-elim (λ e. absurd (omega arith)) (λ x. x) (longest-passes i))
@@ -141,7 +141,7 @@ module _ (b : Rules) (t : List ℕ) where
       let g = s .cand .ordered in
       by-cases (decLt i (longest b t i)) (λ h. some-far i h) (λ h. let e : j ≡ longest b t i = omega arith in subst (Some b t i) e s)
 
-  pub over-far : (s : ℕ) → over s .start ≡ s → over s ≡ fresh b t s
+  over-far : (s : ℕ) → over s .start ≡ s → over s ≡ fresh b t s
   over-far s f = stands s .is ∙ ap (fresh b t) f
 
   pub over-mid : (s i : ℕ) → over s .start ≡ s → s ≤ i → i < longest b t s → over i ≡ over s

@@ -1,6 +1,6 @@
 -- `passes::measure` meets its contract: the length so far and what is still to come make the whole, and what stands for a position has room where
 -- the longest word and a symbol have. Assumes nothing.
-use Prim.Native.Nat.{_+_, _-_, _≤_, _<_}
+use Prim.Native.Nat.{_+_, _-_, _<_}
 use native.Mathlib.Omega.{arith}
 use borrow.Author.Needs.{needs}
 use mathlib.Core.Path.{_≡_}
