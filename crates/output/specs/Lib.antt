@@ -1,4 +1,4 @@
 -- Believed: what one tape gives after a build.
 pub mod Tape
--- For the contracts of inner functions: the passes, one position after the other.
+-- For the contracts of inner functions: how much a tape can give, and what is written into both outputs.
 pub mod Passes

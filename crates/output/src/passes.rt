@@ -251,7 +251,7 @@ pub(crate) fn measure(
         &mut symbols,
         &mut word,
         &mut marks,
-    );
+    ); // a word put in at the tape's end
     length + last.at
 }
 

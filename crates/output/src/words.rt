@@ -1,4 +1,4 @@
-// The words of the rules, read from their records in the book: how long one can be, and its writing with its origins.
+// The words of the rules, read from their records in the book: how long one is, how long that lets an output be, and its writing with its origins.
 use book::outline::ALL_ACCEPTS;
 use book::outline::ALL_STARTS;
 use book::outline::MASKS;

@@ -12,7 +12,7 @@ pub mod Before
 pub mod Lists
 pub mod Ready
 pub mod Position
--- Examples: the books and tapes worked by hand, a tape for the deciding rules, one for the origins of longer words, and two with words put in.
+-- Examples: the books and tapes worked by hand, a tape for the deciding rules, one for the origins of longer words, and those with words put in.
 pub mod Books
 pub mod Table
 pub mod Rivals
