@@ -54,6 +54,15 @@ static void print_out(qafrendi_rewritten r)
     printf("\n");
 }
 
+/* each symbol of the output with the time of its origin */
+static void print_times(qafrendi_rewritten r, const double *seconds)
+{
+    printf(", %zu taken;", r.taken);
+    for (size_t k = 0; k < r.length; k++)
+        printf(" %d at %.2f", out[k], seconds[origins[k]]);
+    printf("\n");
+}
+
 int main(void)
 {
     qafrendi_checked c = qafrendi_check(house, BOOK);
@@ -133,10 +142,7 @@ int main(void)
     static const double seconds[] = {58.10, 58.42, 58.50, 58.60, 58.71, 58.77}; /* of each event on the tape */
     w = rewrite_by(contact, sizeof contact, touch, sizeof touch, OUT);
     say("touch", w.reply, QAFRENDI_ACCEPTED, w.place);
-    printf(", %zu taken;", w.taken);
-    for (size_t k = 0; k < w.length; k++)
-        printf(" %d at %.2f", out[k], seconds[origins[k]]);
-    printf("\n");
+    print_times(w, seconds);
 
     /* a lap mark, 11, between a turn and the next event: rule 0 has an empty focus, after press, any number of holds, release and before a push; rule 1
      * makes these a turn, 8. A word may be put in at the tape's end, so the clock has a time for that too. */
@@ -150,10 +156,7 @@ int main(void)
     static const double clock[] = {58.10, 58.42, 58.50, 58.71, 58.77, 59.02, 59.10};
     w = rewrite_by(laps, sizeof laps, turn, sizeof turn, OUT);
     say("lap", w.reply, QAFRENDI_ACCEPTED, w.place);
-    printf(", %zu taken;", w.taken);
-    for (size_t k = 0; k < w.length; k++)
-        printf(" %d at %.2f", out[k], clock[origins[k]]);
-    printf("\n");
+    print_times(w, clock);
     a = qafrendi_account(
         laps, sizeof laps, turn, sizeof turn, rows, QAFRENDI_ROW_BYTES, sets, QAFRENDI_SET_WORDS, scratch, QAFRENDI_SCRATCH, lines, WORDS);
     say("lap account", a.reply, QAFRENDI_ACCEPTED, a.place);

@@ -2,15 +2,15 @@
 -- crates/stretches/specs. No hypothesis on the book or the tape, but where an accepted book is named.
 use Prim.Native.Nat.{ℕ, _+_, _*_, _≤_, _<_}
 use mathlib.Core.List.{List, [], _∷_, map, List·Memᴰ}
-use mathlib.Core.Path.{_≡_}
+use mathlib.Core.Path.{_≡_, ap}
 use mathlib.Core.Logic.{_↔_, _⊎_}
-use mathlib.Core.Bool.{false}
-use lib.ListN.{length, take, getD}
-use lib.Seq.{slice}
+use mathlib.Core.Bool.{false, _&&_}
+use lib.ListN.{length, take, drop, getD}
+use lib.Seq.{slice, slice-empty}
 use Rattle.book.specs.Format.{longestWord}
 use Rattle.book.specs.Reading.{Book, checkDef}
 use Rattle.book.specs.Language.{Rules, rules, rulesIn}
-use Rattle.stretches.specs.Candidates.{ruleOf, taken}
+use Rattle.stretches.specs.Candidates.{candidate, ruleOf, taken}
 use Rattle.stretches.specs.Output.{Mark, marks, ruleWord, written, rewriting, symbolsOf, originsOf}
 use Rattle.stretches.specs.Account.{Line, account, lineLength, wordsIn}
 use Rattle.stretches.specs.Buffers.{onto}
@@ -110,7 +110,12 @@ module _ (b : Rules) (t : List ℕ) where
   pub sentence-is-lml : (i j r : ℕ) → Taken b t i j r ↔ ((c : Context) × CLML b t c × Earliest b t c r × (start c ≡ i) × (end c ≡ j))
   sentence-is-lml = Stretches.sentence-paper b t
 
-  -- document 02, No. 5: "no start is taken twice"
+  -- document 02, No. 5: "The focus may now be empty and a candidate's start equal its end": where both contexts hold
+  pub empty-candidate : (i r : ℕ) → candidate b t i i r ≡ (b .focus r [] && b .left r (take i t) && b .right r (drop i t))
+  unfolding candidate
+  empty-candidate i r = ap (λ (w : List ℕ). b .focus r w && b .left r (take i t) && b .right r (drop i t)) (slice-empty i t)
+
+  -- "no start is taken twice"
   pub starts-rise : Rising 0 (taken b t)
   starts-rise = Stretches.taken-rising b t
 
