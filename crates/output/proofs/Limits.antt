@@ -24,7 +24,7 @@ use Rattle.stretches.specs.Output.{written, writtenAt, ruleWord, rewriting}
 use Rattle.stretches.specs.Buffers.{longestTape}
 use Rattle.stretches.specs.Ready.{Tests, Ready}
 use Rattle.stretches.specs.Position.{wordHere, keptAt, marksAt, takesAt, endNext}
-use Rattle.output.specs.Passes.{longestIn, mostOutput, mostReplaced}
+use Rattle.output.specs.Passes.{longestIn, mostOutput, mostReplaced, longestFor}
 use Rattle.stretches.proofs.Greatest.{greatest-all, greatest-most, Topped, topped-start, topped-more, topped-less, topped-end}
 use Rattle.stretches.proofs.WordMarks.{marks-length}
 use Rattle.stretches.proofs.Meets.{none-empty}
@@ -217,7 +217,7 @@ module _ (book t rows sets scratch : List ℕ) (ready : Ready book t rows sets s
 
   -- the bound as the code computes it
   pub bound-holds : (masks : List ℕ) (n m r : ℕ) → Tests (bookOf book) n masks → m ≡ longestIn (rulesIn book)
-      → r ≡ cond (eqb (bitAnd (getD masks allStarts 0) (getD masks allAccepts 0)) 0) (mostReplaced (length t) m) (mostOutput (length t) m)
+      → r ≡ longestFor (bitAnd (getD masks allStarts 0) (getD masks allAccepts 0)) (length t) m
       → length (rewriting (rulesIn book) t) ≤ r
   bound-holds masks n m r tests e f = by-cases (ℕ-discrete (bitAnd (getD masks allStarts 0) (getD masks allAccepts 0)) 0)
       (λ z. let q = f ∙ ap (λ (c : Bool). cond c (mostReplaced (length t) m) (mostOutput (length t) m)) (eq-eqb _ _ z) in
@@ -227,16 +227,16 @@ module _ (book t rows sets scratch : List ℕ) (ready : Ready book t rows sets s
 
 -- its three cases; x is what the masks of all starts and of all accepts have in common
 module _ (x n word : ℕ) where
-  pub bound-in : x ≢ 0 → mostOutput n word ≡ cond (eqb x 0) (mostReplaced n word) (mostOutput n word)
+  pub bound-in : x ≢ 0 → mostOutput n word ≡ longestFor x n word
   bound-in h = sym (ap (λ (c : Bool). cond c (mostReplaced n word) (mostOutput n word)) (ne-eqb x 0 h))
 
-  replaced : x ≡ 0 → mostReplaced n word ≡ cond (eqb x 0) (mostReplaced n word) (mostOutput n word)
+  replaced : x ≡ 0 → mostReplaced n word ≡ longestFor x n word
   replaced h = sym (ap (λ (c : Bool). cond c (mostReplaced n word) (mostOutput n word)) (eq-eqb x 0 h))
 
-  pub bound-one : x ≡ 0 → word ≡ 0 → n ≡ cond (eqb x 0) (mostReplaced n word) (mostOutput n word)
+  pub bound-one : x ≡ 0 → word ≡ 0 → n ≡ longestFor x n word
   bound-one h e = let m : max 1 word ≡ 1 = omega arith in sym (mul-one n) ∙ ap (λ (k : ℕ). n * k) (sym m) ∙ replaced h
 
-  pub bound-word : x ≡ 0 → word ≢ 0 → n * word ≡ cond (eqb x 0) (mostReplaced n word) (mostOutput n word)
+  pub bound-word : x ≡ 0 → word ≢ 0 → n * word ≡ longestFor x n word
   bound-word h e = let m : max 1 word ≡ word = omega (arith, e) in ap (λ (k : ℕ). n * k) (sym m) ∙ replaced h
 
   -- no sum wraps

@@ -3,7 +3,7 @@ use Prim.Native.Nat.{ℕ, _+_, _-_, _*_, max, _≤_}
 use mathlib.Core.Path.{_≡_}
 use mathlib.Core.List.{List, map}
 use mathlib.Core.Bool.{cond}
-use lib.Dec.{leb, ltb}
+use lib.Dec.{eqb, leb, ltb}
 use lib.ListN.{length, set, replicate}
 use Rattle.book.specs.Language.{Rules}
 use Rattle.stretches.specs.Candidates.{taken}
@@ -21,6 +21,10 @@ mostOutput n word = n * (word + 1) + word
 -- where no focus is empty: for each symbol a word, or itself
 abbrev pub mostReplaced : ℕ → ℕ → ℕ
 mostReplaced n word = n * max 1 word
+
+-- of the two the one that holds; x is what the focus starts and the focus accepts of all rules have in common
+abbrev pub longestFor : ℕ → ℕ → ℕ → ℕ
+longestFor x n word = cond (eqb x 0) (mostReplaced n word) (mostOutput n word)
 
 -- the two counts of the whole tape
 pub record Sized (b : Rules) (t : List ℕ) (length′ taken′ : ℕ) : Type 0 where

@@ -4,10 +4,8 @@ use book::outline::ALL_STARTS;
 use book::outline::MASKS;
 use book::outline::word_length;
 ghost use mathlib.Core.Path.{_≡_};
-ghost use mathlib.Core.Bool.{cond};
 ghost use Prim.Native.Nat.{_+_, _≤_};
 ghost use lib.Bits.{bitAnd};
-ghost use lib.Dec.{eqb};
 ghost use lib.ListN.{length, getD};
 ghost use Rattle.book.specs.Format.{mostRules, longestWord};
 ghost use Rattle.book.specs.Reading.{wordAt, bookOf};
@@ -15,7 +13,7 @@ ghost use Rattle.book.specs.Language.{rulesIn};
 ghost use Rattle.book.specs.Outline.{WordRoom, WordsAt, allStarts, allAccepts};
 ghost use Rattle.stretches.specs.Buffers.{longestTape};
 ghost use Rattle.stretches.specs.Output.{lastPosition};
-ghost use Rattle.output.specs.Passes.{longestIn, mostOutput, mostReplaced, SymbolsPut, lastPut, WordPut};
+ghost use Rattle.output.specs.Passes.{longestIn, longestFor, SymbolsPut, lastPut, WordPut};
 
 // How many symbols the longest word has.
 pub(crate) fn longest_word(book: &[u8], words: &[u16; book::RULES], rules: usize) -> usize
@@ -39,8 +37,7 @@ pub(crate) fn longest_word(book: &[u8], words: &[u16; book::RULES], rules: usize
 // starts and accepts nothing is put in, and each symbol gives a longest word or itself.
 pub(crate) fn longest_output(masks: &[u64; MASKS], n: usize, word: usize) -> usize
     requires { ⌜ (n ≤ longestTape) × (word ≤ longestWord) ⌝ }
-    ensures { λ r. ⌜ r ≡ cond (eqb (bitAnd (getD (now (masks .entry)) allStarts 0) (getD (now (masks .entry)) allAccepts 0)) 0)
-        (mostReplaced n word) (mostOutput n word) ⌝ }
+    ensures { λ r. ⌜ r ≡ longestFor (bitAnd (getD (now (masks .entry)) allStarts 0) (getD (now (masks .entry)) allAccepts 0)) n word ⌝ }
 {
     if masks[ALL_STARTS] & masks[ALL_ACCEPTS] != 0 {
         return n * (word + 1) + word;
