@@ -54,7 +54,7 @@ rows =
     refusal (state 3 4) 4 0 ∷
     refusal (arc 0 0 symbolCount 0) 4 0 ∷
     refusal (end ++ end) 4 0 ∷
-    -- 5: a length above 8, a symbol above 15, an unused symbol that is not 0; part, flags; highest, lowest above highest; it comes before 6
+    -- 5: a length above 8, a symbol above the last, an unused symbol that is not 0; part, flags; highest, lowest above highest; it comes before 6
     refusal (set rule 1 9) 5 0 ∷
     refusal (set rule 2 symbolCount) 5 0 ∷
     refusal (set rule 3 1) 5 0 ∷

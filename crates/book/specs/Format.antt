@@ -9,9 +9,10 @@ use lib.ListN.{length, getD, replicate}
 use lib.Dec.{ltb, leb, eqb}
 use Rattle.book.specs.declared.Scan.{Scan}
 
--- "Numbers: symbols 0 to 15; rules 1 to 16; states at most 64; arcs at most 512"; "length 0 to 8 of the replacement"
+-- "Numbers: symbols 0 to 15", and since document 02, No. 6, "Symbols run from 0 to 31"; "rules 1 to 16; states at most 64; arcs at most 512"; "length
+-- 0 to 8 of the replacement"
 abbrev pub symbolCount : ℕ
-symbolCount = 16
+symbolCount = 32
 
 abbrev pub mostRules : ℕ
 mostRules = 16

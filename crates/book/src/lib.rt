@@ -9,8 +9,10 @@ ghost use Rattle.book.specs.Reading.{refused, answer, checkDef};
 
 pub mod outline; // outline.rt: where the records of an accepted book's states and rules stand, and which states start or accept
 
-// The numbers of document 01.
-pub const SYMBOLS: u8 = 16;
+// The numbers of document 01, and of document 02, No. 6.
+pub const SYMBOLS: u8 = 32;
+
+pub const LAST_SYMBOL: u8 = SYMBOLS - 1;
 
 pub const RULES: usize = 16;
 

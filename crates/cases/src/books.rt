@@ -13,13 +13,18 @@ pub const PAIR: [u8; 29] = *b"\
 
 pub const PAIR_LENGTH: usize = 28;
 
-// One or more of any symbol become nothing, with no condition on either side.
-pub const LONG: [u8; 33] = *b"\
-    \x01\x00\x00\x00\x00\x00\x00\x00\x00\x00\
-    \x02\x00\x03\
-    \x02\x01\x01\
-    \x02\x01\x02\
-    \x02\x02\x03\
-    \x03\x01\x00\x0f\x02\
-    \x03\x02\x00\x0f\x02\
-    \x04";
+// One or more of any symbol become nothing, with no condition on either side. The highest symbols of the arcs stand at 25 and 30.
+pub fn long() -> [u8; 33] {
+    let mut book = *b"\
+        \x01\x00\x00\x00\x00\x00\x00\x00\x00\x00\
+        \x02\x00\x03\
+        \x02\x01\x01\
+        \x02\x01\x02\
+        \x02\x02\x03\
+        \x03\x01\x00\x00\x02\
+        \x03\x02\x00\x00\x02\
+        \x04";
+    book[25] = book::LAST_SYMBOL;
+    book[30] = book::LAST_SYMBOL;
+    book
+}

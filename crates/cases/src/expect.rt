@@ -25,6 +25,10 @@ pub const RIGHT: u8 = 5;
 
 pub const FULL: u8 = 6;
 
+pub const LAST_LEFT: u8 = 7;
+
+pub const LAST_RIGHT: u8 = 8;
+
 // The buffers whose elements are compared, but for the sets.
 pub(crate) const ROWS: u8 = 0;
 
@@ -46,14 +50,26 @@ pub(crate) fn tables_after(reply: u8, tables: u8) -> u8 {
     }
 }
 
-// A chain's sets are the last eight symbols, a bit for each that is 1, in the order of their numbers: set k leads to 2 k, with
-// symbol 1 to 2 k + 1, and the ninth symbol back is forgotten.
-fn chain_row(i: usize) -> u8 {
+// A chain's sets are the last eight symbols, a bit for each that is the one asked for, in the order of their numbers: set k leads to 2 k, with
+// the one asked for to 2 k + 1, and the ninth symbol back is forgotten.
+fn chain_row(i: usize, asked: usize) -> u8 {
     let next = 2 * (i / ROW % MOST_SETS);
-    if i % ROW == 1 {
+    if i % ROW == asked {
         return ((next + 1) % MOST_SETS) as u8;
     }
     (next % MOST_SETS) as u8
+}
+
+fn left_row(i: usize, asked: usize) -> u8 {
+    if i < PAIRS { chain_row(i, asked) } else { 0 }
+}
+
+fn right_row(i: usize, asked: usize) -> u8 {
+    if i < PAIRS {
+        0
+    } else {
+        chain_row(i - PAIRS, asked)
+    }
 }
 
 fn row(tables: u8, i: usize) -> u8 {
@@ -64,8 +80,10 @@ fn row(tables: u8, i: usize) -> u8 {
         UNTOUCHED => OLD,
         PAIR => pair_row(i),
         LONG => long_row(i),
-        LEFT => { if i < PAIRS { chain_row(i) } else { 0 } }
-        RIGHT => { if i < PAIRS { 0 } else { chain_row(i - PAIRS) } }
+        LEFT => left_row(i, 1),
+        RIGHT => right_row(i, 1),
+        LAST_LEFT => left_row(i, ROW - 1),
+        LAST_RIGHT => right_row(i, ROW - 1),
         _ => 0,
     }
 }
@@ -96,7 +114,7 @@ fn small_set(i: usize) -> u64 {
     if i == MOST_SETS + 1 { 14 } else { 0 }
 }
 
-// State 0 always, state j where the symbol j places back is 1; on the right one set of state 9.
+// State 0 always, state j where the symbol j places back is the one asked for; on the right one set of state 9.
 fn left_set(i: usize) -> u64 {
     if i < MOST_SETS {
         return 2 * (i as u64) + 1;
@@ -104,7 +122,7 @@ fn left_set(i: usize) -> u64 {
     if i == MOST_SETS { 512 } else { 0 }
 }
 
-// State 8 always, state 7 - j where the symbol j places on is 1; on the left one set of state 9.
+// State 8 always, state 7 - j where the symbol j places on is the one asked for; on the left one set of state 9.
 fn right_set(i: usize) -> u64 {
     if i == 0 {
         return 512;
@@ -148,8 +166,8 @@ pub(crate) fn set(tables: u8, i: usize) -> u64 {
         UNTOUCHED => OLD as u64,
         PAIR => small_set(i),
         LONG => small_set(i),
-        LEFT => left_set(i),
-        RIGHT => right_set(i),
+        LEFT | LAST_LEFT => left_set(i),
+        RIGHT | LAST_RIGHT => right_set(i),
         FULL => full_set(i),
         _ => 0,
     }

@@ -2,6 +2,7 @@
 // its place and its counts, also from BUILD, REWRITE and ACCOUNT, which hand it on. A line a case: ok or WRONG, operation, reply, place.
 mod written; // written.rt: books written record by record
 
+use book::LAST_SYMBOL;
 use book::SYMBOLS;
 use cases::TOO_LONG;
 use cases::accepted;
@@ -10,6 +11,8 @@ use cases::ample;
 use cases::books;
 use cases::build_case;
 use cases::check_case;
+use cases::expect::LAST_LEFT;
+use cases::expect::LAST_RIGHT;
 use cases::expect::LEFT;
 use cases::expect::RIGHT;
 use cases::expect::UNTOUCHED;
@@ -64,7 +67,7 @@ fn no_rule() {
 
 fn bad_fields() {
     edit_case(0, 28, 1, 9, 5, 0, b"a word of nine symbols");
-    edit_case(0, 28, 2, 16, 5, 0, b"a word with symbol 16");
+    edit_case(0, 28, 2, SYMBOLS, 5, 0, b"a word with symbol 32");
     edit_case(0, 28, 4, 1, 5, 0, b"an unused byte that is not 0");
     edit_case(0, 28, 11, 3, 5, 10, b"part 3");
     edit_case(0, 28, 12, 4, 5, 10, b"flags 4");
@@ -72,7 +75,7 @@ fn bad_fields() {
 
 fn bad_arcs() {
     edit_case(0, 28, 24, 2, 5, 22, b"lowest above highest");
-    edit_case(0, 28, 25, 16, 5, 22, b"an arc for symbol 16");
+    edit_case(0, 28, 25, SYMBOLS, 5, 22, b"an arc for symbol 32");
     edit_case(0, 28, 26, 4, 6, 22, b"an arc to a state that is not given");
     edit_case(0, 28, 23, 200, 6, 22, b"an arc from a state that cannot be");
     edit_case(0, 28, 26, 0, 6, 22, b"an arc to another part");
@@ -80,6 +83,18 @@ fn bad_arcs() {
 
 fn bad_end() {
     edit_case(0, 29, 0, 1, 8, 28, b"a byte after the end");
+}
+
+// "Symbols run from 0 to 31"
+fn last_symbols() {
+    let mut book = books::PAIR;
+    written::change(&mut book, 2, LAST_SYMBOL);
+    written::change(&mut book, 25, LAST_SYMBOL);
+    check_case(
+        front(&book, books::PAIR_LENGTH),
+        accepted(UNTOUCHED, 1, 4, 1),
+        b"a word with symbol 31 and an arc for it",
+    );
 }
 
 // "7 is no longer given"
@@ -146,31 +161,39 @@ fn unbuilt(book: &[u8], reply: u8, note: &[u8]) {
 }
 
 // "A left part that asks for symbol 1 exactly" 8 "places before the present position, with a full range after it", and 9 places
-fn left_cases() {
+fn left_cases(symbol: u8, tables: u8, built: &[u8], many: &[u8]) {
     let mut book = [0u8; 100];
-    let n = written::chain(&mut book, book::LEFT, book::RIGHT, 8, 0);
-    build_case(
-        front(&book, n),
-        ample(),
-        accepted(LEFT, 256, 1, 0),
-        b"256 left sets",
-    );
-    let m = written::chain(&mut book, book::LEFT, book::RIGHT, 9, 0);
-    unbuilt(front(&book, m), 13, b"512 left sets");
+    let n = written::chain(&mut book, book::LEFT, book::RIGHT, 8, 0, symbol);
+    build_case(front(&book, n), ample(), accepted(tables, 256, 1, 0), built);
+    let m = written::chain(&mut book, book::LEFT, book::RIGHT, 9, 0, symbol);
+    unbuilt(front(&book, m), 13, many);
 }
 
 // "The mirror image on the right"
-fn right_cases() {
+fn right_cases(symbol: u8, tables: u8, built: &[u8], many: &[u8]) {
     let mut book = [0u8; 100];
-    let n = written::chain(&mut book, book::RIGHT, book::LEFT, 8, 7);
-    build_case(
-        front(&book, n),
-        ample(),
-        accepted(RIGHT, 1, 256, 0),
-        b"256 right sets",
+    let n = written::chain(&mut book, book::RIGHT, book::LEFT, 8, 7, symbol);
+    build_case(front(&book, n), ample(), accepted(tables, 1, 256, 0), built);
+    let m = written::chain(&mut book, book::RIGHT, book::LEFT, 9, 8, symbol);
+    unbuilt(front(&book, m), 14, many);
+}
+
+// The same for symbol 31, which comes last in the numbering.
+fn set_cases() {
+    left_cases(1, LEFT, b"256 left sets", b"512 left sets");
+    right_cases(1, RIGHT, b"256 right sets", b"512 right sets");
+    left_cases(
+        LAST_SYMBOL,
+        LAST_LEFT,
+        b"256 left sets by symbol 31",
+        b"512 left sets by symbol 31",
     );
-    let m = written::chain(&mut book, book::RIGHT, book::LEFT, 9, 8);
-    unbuilt(front(&book, m), 14, b"512 right sets");
+    right_cases(
+        LAST_SYMBOL,
+        LAST_RIGHT,
+        b"256 right sets by symbol 31",
+        b"512 right sets by symbol 31",
+    );
 }
 
 fn main() {
@@ -180,8 +203,8 @@ fn main() {
     bad_fields();
     bad_arcs();
     bad_end();
+    last_symbols();
     empty_focus();
     count_cases();
-    left_cases();
-    right_cases();
+    set_cases();
 }

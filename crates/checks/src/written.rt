@@ -4,13 +4,12 @@ use book::ACCEPT;
 use book::ARC;
 use book::BOTH;
 use book::END;
+use book::LAST_SYMBOL;
 use book::LEFT;
 use book::RULE;
 use book::RULE_SIZE;
 use book::START;
 use book::STATE;
-
-const LAST_SYMBOL: u8 = book::SYMBOLS - 1;
 
 // A rule with an empty word.
 const NO_WORD: [u8; RULE_SIZE] = [RULE, 0, 0, 0, 0, 0, 0, 0, 0, 0];
@@ -56,36 +55,36 @@ pub(crate) fn many(book: &mut [u8], rules: usize, states: usize, arcs: usize) ->
     put(book, at, &[END])
 }
 
-// A chain's arc from j to j + 1 asks for symbol 1 where j is `asked`, and else for any.
-fn chain_arc(j: u8, asked: u8) -> [u8; book::ARC_SIZE]
+// A chain's arc from j to j + 1 asks for the symbol where j is `asked`, and else for any.
+fn chain_arc(j: u8, asked: u8, symbol: u8) -> [u8; book::ARC_SIZE]
     requires { ⌜ j < 255 ⌝ }
 {
     if j == asked {
-        return [ARC, j, 1, 1, j + 1];
+        return [ARC, j, symbol, symbol, j + 1];
     }
     [ARC, j, 0, LAST_SYMBOL, j + 1]
 }
 
-fn chain_arcs(book: &mut [u8], from: usize, k: u8, asked: u8) -> usize {
+fn chain_arcs(book: &mut [u8], from: usize, k: u8, asked: u8, symbol: u8) -> usize {
     let mut at = from;
     let mut j = 0;
     while j < k {
-        let arc = chain_arc(j, asked);
+        let arc = chain_arc(j, asked, symbol);
         at = put(book, at, &arc);
         j += 1;
     }
     at
 }
 
-// One rule without focus states. States 0 to k are a chain of the part, which asks for symbol 1 at its arc `asked`; state k + 1 is
-// the other condition, which always holds. The book's length.
-pub(crate) fn chain(book: &mut [u8], part: u8, other: u8, k: u8, asked: u8) -> usize
+// One rule without focus states. States 0 to k are a chain of the part, which asks for the symbol at its arc `asked`; state k + 1
+// is the other condition, which always holds. The book's length.
+pub(crate) fn chain(book: &mut [u8], part: u8, other: u8, k: u8, asked: u8, symbol: u8) -> usize
     requires { ⌜ 0 < k ⌝ }
 {
     let mut at = put(book, 0, &NO_WORD);
     at = put(book, at, &[STATE, part, START]);
     at = repeat(book, at, &[STATE, part, 0], (k - 1) as usize);
     at = put(book, at, &[STATE, part, ACCEPT, STATE, other, BOTH]);
-    at = chain_arcs(book, at, k, asked);
+    at = chain_arcs(book, at, k, asked, symbol);
     put(book, at, &[END])
 }

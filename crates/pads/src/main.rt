@@ -1,8 +1,8 @@
-// Document 01's program: tapes as lines of hex digits on standard input, each rewritten and accounted for by the house book.
+// Document 01's program: tapes as lines of digits, 0 to 9 and a to v, on standard input, each rewritten and accounted for by the house book.
 ghost use mathlib.Core.Path.{_≡_};
 ghost use Prim.Native.Nat.{_≤_, _<_};
 ghost use lib.ListN.{length};
-ghost use Rattle.pads.specs.Hex.{symbolOf};
+ghost use Rattle.pads.specs.Digits.{symbolOf};
 
 mod print; // print.rt: the lines printed
 
@@ -23,6 +23,11 @@ const OUT: usize = LONGEST_TAPE;
 
 // "It gives the account 6,000 words."
 const ACCOUNT: usize = 6000;
+
+// The symbol of the first letter, and the last letter that is a digit.
+const LETTERS: u8 = 10;
+
+const LAST_LETTER: u8 = b'a' + (SYMBOLS - LETTERS - 1);
 
 // What a chunk gave from a place on: the next place, the symbols held, and whether a line ended.
 struct Fed {
@@ -56,7 +61,7 @@ fn symbol(b: u8) -> u8
 {
     match b {
         b'0'..=b'9' => b - b'0',
-        b'a'..=b'f' => b - (b'a' - 10),
+        b'a'..=LAST_LETTER => b - (b'a' - LETTERS),
         _ => SYMBOLS,
     }
 }

@@ -3,7 +3,8 @@ ghost use mathlib.Core.Path.{_≡_};
 ghost use Prim.Native.Nat.{_*_, _≤_, _<_};
 ghost use lib.ListN.{length};
 ghost use Rattle.stretches.specs.Account.{lineLength};
-ghost use Rattle.pads.specs.Hex.{digitOf};
+ghost use Rattle.pads.specs.Digits.{digitOf};
+use book::LAST_SYMBOL;
 use rewriter::LINE_WORDS;
 
 // The character of a symbol.
@@ -12,7 +13,7 @@ fn digit(s: u8) -> u8
 {
     match s {
         0..=9 => s + b'0',
-        10..=15 => s + (b'a' - 10),
+        super::LETTERS..=LAST_SYMBOL => s + (b'a' - super::LETTERS),
         _ => b'?',
     }
 }

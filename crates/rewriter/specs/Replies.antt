@@ -17,7 +17,7 @@ use Rattle.rewriter.specs.declared.Refusal.{Refusal}
 use Rattle.output.specs.declared.Rewritten.{Rewritten}
 use Rattle.lines.specs.declared.Accounted.{Accounted}
 
--- "10: a tape symbol above 15; first such position": that position, or the tape's length
+-- "10: a tape symbol above 15; first such position", and since document 02, No. 6, "5 and 10 now begin at 32": that position, or the tape's length
 unfoldable pub firstBad : List ℕ → ℕ
 firstBad [] = 0
 firstBad (x ∷ xs) = cond (ltb x symbolCount) (suc (firstBad xs)) 0

@@ -1,5 +1,6 @@
 -- Document 01, "The two automata": "Each side's sets are numbered: 0 for the empty tape; then, for each numbered set in turn and each
--- symbol 0 to 15, the next set not met before gets the next number." Over any step f and any first set s.
+-- symbol 0 to 15, the next set not met before gets the next number", and since document 02, No. 6: "Symbols run from 0 to 31, also in numbering."
+-- Over any step f and any first set s.
 use Prim.Native.Nat.{ℕ, zero, suc, _+_, _*_, _/_, _%_}
 use mathlib.Core.Bool.{true, false}
 use mathlib.Core.List.{List, [], _∷_, _++_}
@@ -12,7 +13,7 @@ unfoldable pub use Rattle.book.specs.Format.{pad}
 abbrev pub mostSets : ℕ
 mostSets = 256
 
--- the pairs of a numbered set and a symbol: "256 rows of 16 next numbers a side"
+-- the pairs of a numbered set and a symbol: 256 rows a side, and "Rows have 32 entries"
 abbrev pub pairs : ℕ
 pairs = symbolCount * mostSets
 
@@ -34,7 +35,7 @@ entry rows k a = getD rows (symbolCount * k + a) 0
 unfoldable pub enter : ℕ → ℕ → Table → Table
 enter n x t = record { sets = elim (eqb n (length (t .sets))) [ true ↦ t .sets ++ (x ∷ []) | false ↦ t .sets ]; rows = t .rows ++ (n ∷ []) }
 
--- "for each numbered set in turn and each symbol": pair j is set j / 16 with symbol j % 16, and this is what comes after it
+-- "for each numbered set in turn and each symbol": pair j is set j / 32 with symbol j % 32, and this is what comes after it
 unfoldable pub next : (ℕ → ℕ → ℕ) → ℕ → List ℕ → ℕ
 next f j S = f (getD S (j / symbolCount) 0) (j % symbolCount)
 

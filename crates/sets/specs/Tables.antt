@@ -16,7 +16,7 @@ leftCount book = length (leftTable (bookOf book) .sets)
 unfoldable pub rightCount : List ℕ → ℕ
 rightCount book = length (rightTable (bookOf book) .sets)
 
--- "left rows, then right rows: 256 rows of 16 next numbers a side": entry a of row k
+-- "left rows, then right rows", 256 a side: entry a of row k
 abbrev pub leftEntry : List ℕ → ℕ → ℕ → ℕ
 leftEntry rows k a = entry rows k a
 
@@ -30,7 +30,7 @@ leftSet sets k = getD sets k 0
 abbrev pub rightSet : List ℕ → ℕ → ℕ
 rightSet sets k = getD sets (mostSets + k) 0
 
--- "symbols 0 to 15": what a walk over the rows is made along
+-- "Symbols run from 0 to 31": what a walk over the rows is made along
 abbrev pub Tape : List ℕ → Type 0
 Tape [] = Unit {0}
 Tape (a ∷ w) = (a < symbolCount) × Tape w

@@ -9,7 +9,8 @@ use Rattle.sets.specs.Sets.{leftFirst, leftNext, rightLast, rightPrev}
 use Rattle.sets.specs.Numbering.{mostSets, pairs, Table, all, pad}
 use Rattle.sets.specs.declared.Built.{Built}
 
--- "The workspace is 8,192 bytes (left rows, then right rows: 256 rows of 16 next numbers a side) and 512 64-bit sets (left, then right)."
+-- "left rows, then right rows: 256 rows [..] a side", and "512 64-bit sets (left, then right)"; document 02, No. 6: "Rows have 32 entries, so the
+-- byte workspace is 16,384 bytes."
 abbrev pub rowBytes : ℕ
 rowBytes = pairs + pairs
 

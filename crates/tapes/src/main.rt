@@ -34,7 +34,7 @@ fn tape_of(tape: &mut [u8]) {
 
 // All symbols of the longest tape become nothing in one stretch; each of its stretches is a candidate.
 fn long_cases() {
-    let book = books::LONG;
+    let book = books::long();
     let mut tape = [0u8; LONGEST_TAPE];
     tape_of(&mut tape);
     rewrite_case(

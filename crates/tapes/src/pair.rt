@@ -140,17 +140,17 @@ fn pair_account() {
 fn bad_symbols(book: &[u8]) {
     rewrite_case(
         book,
-        &[0, 1, 16, 255],
+        &[0, 1, SYMBOLS, 255],
         ample(),
         refused(PAIR, 10, 2),
-        b"symbol 16",
+        b"symbol 32",
     );
     account_case(
         book,
-        &[0, 1, 16, 255],
+        &[0, 1, SYMBOLS, 255],
         ample(),
         refused(PAIR, 10, 2),
-        b"symbol 16",
+        b"symbol 32",
     );
     rewrite_case(
         book,

@@ -7,10 +7,10 @@ use Rattle.checks.proofs.written.chain_arcs.Statement.{statement}
 use Rattle.checks.proofs.written.chain_arcs.Tie as tie
 
 abbrev Inv-loop : tie.InvT-loop
-Inv-loop book₀ from k asked at₀ j₀ book at j = length book ≡ length book₀
+Inv-loop book₀ from k asked symbol at₀ j₀ book at j = length book ≡ length book₀
 
 abbrev μ-loop : tie.MeasureT-loop
-μ-loop book₀ from k asked at₀ j₀ book at j = k - j
+μ-loop book₀ from k asked symbol at₀ j₀ book at j = k - j
 
 loop-holds : tie.Need-loop-holds Inv-loop μ-loop
 loop-holds c = search needs
