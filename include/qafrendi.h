@@ -33,7 +33,7 @@ extern "C" {
 
 /* The limits, and what is enough for every call: the two pieces of the workspace, the scratch, the output of the longest tape, and the stack. */
 enum {
-    QAFRENDI_SYMBOLS = 16,
+    QAFRENDI_SYMBOLS = 32,
     QAFRENDI_LONGEST_WORD = 8,
     QAFRENDI_LONGEST_TAPE = 4096,
     QAFRENDI_MOST_SETS = 256,                                     /* a side */
@@ -54,12 +54,12 @@ enum {
     QAFRENDI_UNKNOWN_KIND = 2,     /* unknown kind                                                         offset */
     QAFRENDI_TOO_MANY = 3,         /* 17th rule, 65th state or 513th arc                                   offset */
     QAFRENDI_NO_RULE = 4,          /* state, arc or end before any rule                                    offset */
-    QAFRENDI_BAD_FIELD = 5,        /* a field outside its range, a symbol above 15, lowest above highest   offset */
+    QAFRENDI_BAD_FIELD = 5,        /* a field outside its range, a symbol above 31, lowest above highest   offset */
     QAFRENDI_BAD_ARC = 6,          /* an arc names a state not yet given in the latest rule, or two parts  offset */
     QAFRENDI_EMPTY_FOCUS = 7,      /* retired, and never given again: a focus may be empty                 */
     QAFRENDI_AFTER_END = 8,        /* a byte follows the end record                                        its offset */
     QAFRENDI_LONG_TAPE = 9,        /* tape longer than 4,096                                               0 */
-    QAFRENDI_BAD_SYMBOL = 10,      /* a tape symbol above 15                                               first such position */
+    QAFRENDI_BAD_SYMBOL = 10,      /* a tape symbol above 31                                               first such position */
     QAFRENDI_SHORT_WORKSPACE = 11, /* workspace too short, either piece                                    0 */
     QAFRENDI_SHORT_SCRATCH = 12,   /* scratch shorter than tape_length + 1                                 0 */
     QAFRENDI_MANY_LEFT_SETS = 13,  /* more than 256 left sets                                              0 */
@@ -129,7 +129,7 @@ qafrendi_checked qafrendi_check(const uint8_t *book, size_t book_length);
 
 /* BUILD: the two automata of a book, and how many sets each has. Replies 0 to 8, 11, 13, 14.
  * Needs rows of QAFRENDI_ROW_BYTES and sets of QAFRENDI_SET_WORDS elements or more.
- * Writes those front parts: 256 rows of 16 next numbers a side and 256 sets a side, left and then right, 0 past a side's count.
+ * Writes those front parts: 256 rows of QAFRENDI_SYMBOLS next numbers a side and 256 sets a side, left and then right, 0 past a side's count.
  * Never touches the book, nor the elements past those parts. */
 qafrendi_built qafrendi_build(
     const uint8_t *book, size_t book_length,
