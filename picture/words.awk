@@ -2,7 +2,7 @@
 # are document 01's; a number that it may change stands in BEGIN, once.
 
 BEGIN {
-  DIGITS = "0123456789abcdef" # of symbols 0 and up
+  DIGITS = "0123456789abcdefghijklmnopqrstuv" # of symbols 0 and up
   LAST_SYMBOL = length(DIGITS) - 1
   LONGEST_TAPE = "4,096"
   MOST_SETS = 256
