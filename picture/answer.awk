@@ -91,6 +91,7 @@ function check_answer(    i) {
   if (NR == 0) fail("the answer is empty")
   if (given_output && NR == 1) fail("the line O is missing")
   if (output_length != length(output) || output_length != origins) fail("W and O do not agree")
+  check_characters(first_bad())
   for (i = 0; i < candidates; i++) {
     check_deciding(deciding_start[i], deciding_rule[i])
     check_verdict(i, taken_from[deciding_start[i]])
@@ -99,6 +100,18 @@ function check_answer(    i) {
   if (refused) return
   for (i = 0; i < tape_length; i++) check_kept(i)
   if (stretches_taken != taken_lines) fail("W has " stretches_taken " stretches taken, and the lines have " taken_lines)
+}
+
+# The tape beside the answer. Document 01, reply 10: its place is the "first such position"; and such a tape has no output.
+function check_characters(bad) {
+  if (given_output && bad >= 0) fail("position " bad " of the tape is no symbol, and the tape has an output")
+  if (number == 10 && place != bad) fail("position " place " of the tape is not the first that is no symbol")
+}
+
+# the first position of the tape whose character is no symbol; -1 if all are
+function first_bad(    i) {
+  for (i = 0; i < tape_length; i++) if (!is_symbol(symbol_at(i))) return i
+  return -1
 }
 
 # what a line says of the deciding stretch, beside the line that was taken there
