@@ -1,6 +1,6 @@
-/* A heat from the shell: the tapes on standard input, a line a lane in hex digits, through the house book in one call. It prints of each
- * lane what the program pads prints of a tape, but for the account: W and O, or X with the lane's reply and place. A call that is
- * refused as a whole, as one of eleven lanes is, prints one X. */
+/* A heat from the shell: the tapes on standard input, a line a lane, a digit (0 to 9, a to v) a symbol, through the house book in one call.
+ * It prints of each lane what the program pads prints of a tape, but for the account: W and O, or X with the lane's reply and place. A call
+ * that is refused as a whole, as one of eleven lanes is, prints one X. */
 #include <stdio.h>
 
 #include "house.h"
@@ -17,12 +17,15 @@ static uint8_t scratch[QAFRENDI_SCRATCH];
 static uint8_t out[ROOM]; /* no word of the house book is longer than its focus */
 static uint16_t origins[ROOM];
 
-/* The symbol of a character; one that is none for any other than a hex digit. */
+/* Of the symbols, from 0 on. */
+static const char digits[QAFRENDI_SYMBOLS + 1] = "0123456789abcdefghijklmnopqrstuv";
+
+/* The symbol of a character; one that is none, QAFRENDI_SYMBOLS, where it is no digit. */
 static uint8_t symbol(int character)
 {
-    if ('0' <= character && character <= '9') return (uint8_t)(character - '0');
-    if ('a' <= character && character <= 'f') return (uint8_t)(character - 'a' + 10);
-    return QAFRENDI_SYMBOLS;
+    uint8_t number = 0;
+    while (number < QAFRENDI_SYMBOLS && digits[number] != character) number++;
+    return number;
 }
 
 /* The lanes on standard input, one after the other in the common buffer; how many there are. The rest of a line that is too long is left out. */
@@ -58,7 +61,7 @@ int main(void)
         }
         printf("W %zu %zu %s", lanes[i].out, lanes[i].taken, lanes[i].out ? "" : "-");
         for (size_t k = at; k < at + lanes[i].out; k++)
-            printf("%x", out[k]);
+            putchar(digits[out[k]]);
         printf("\nO%s", lanes[i].out ? "" : " -");
         for (size_t k = at; k < at + lanes[i].out; k++)
             printf(" %d", origins[k]);
