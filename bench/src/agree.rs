@@ -1,5 +1,6 @@
 //! Before anything is timed: the contestants give the same answers and leave the same buffers. A difference ends the run.
 
+use crate::alphabet::Alphabet;
 use crate::answer::{Heated, Lane, LANES, LINE, LONGEST_OUT, ROW_BYTES, SYMBOLS, TAPE};
 use crate::chance::Chance;
 use crate::heats::{lane, Heat};
@@ -39,8 +40,8 @@ pub fn on_damaged(cases: usize, chance: &mut Chance) {
     let whole = [
         books::house(),
         books::turn(),
-        books::full_sets(),
-        books::dense(chance),
+        books::full_sets(Alphabet::WHOLE),
+        books::dense(Alphabet::WHOLE, chance),
         books::lap(),
         books::inserted_lengths(),
         books::every_place(),
@@ -49,14 +50,17 @@ pub fn on_damaged(cases: usize, chance: &mut Chance) {
         let mut book = whole[case % whole.len()].clone();
         for _ in 0..chance.below(4) {
             let at = chance.below(book.len());
-            book[at] = chance.below(18) as u8;
+            book[at] = chance.below(SYMBOLS + 2) as u8;
         }
         if chance.below(8) == 0 {
             book.truncate(chance.below(book.len()));
         }
         let length = chance.below(24);
-        let tape =
-            if chance.below(2) == 0 { tapes::pool(chance)[..length].to_vec() } else { tapes::random(length, chance) };
+        let tape = if chance.below(2) == 0 {
+            tapes::pool(chance)[..length].to_vec()
+        } else {
+            tapes::random(length, Alphabet::WHOLE, chance)
+        };
         on(&book, &tape, chance.below(20), chance.below(60));
         let lanes: Vec<Lane> = (0..chance.below(LANES + 2)).map(|_| some_lane(length, chance)).collect();
         let (out, scratch) = (chance.below(60), chance.below(24));

@@ -56,7 +56,7 @@ pub struct Heated {
 }
 
 /// The numbers of the documents that lengths of buffers follow from.
-pub const SYMBOLS: usize = 16;
+pub const SYMBOLS: usize = 32;
 pub const RULES: usize = 16;
 pub const STATES: usize = 64;
 pub const ARCS: usize = 512;

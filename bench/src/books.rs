@@ -1,5 +1,6 @@
 //! The books that are measured or compared, made record by record.
 
+use crate::alphabet::Alphabet;
 use crate::answer::{ARCS, WORD};
 use crate::chance::Chance;
 
@@ -11,8 +12,6 @@ const NEITHER: u8 = 0;
 const START: u8 = 1;
 const ACCEPT: u8 = 2;
 const BOTH: u8 = 3;
-
-const LAST: u8 = 15;
 
 /// The mark that `lap` puts in.
 const LAP: u8 = 11;
@@ -130,12 +129,12 @@ pub fn lap() -> Vec<u8> {
 }
 
 /// Sixteen rules that nearly every position starts, 64 states, 512 arcs.
-pub fn dense(chance: &mut Chance) -> Vec<u8> {
+pub fn dense(alphabet: Alphabet, chance: &mut Chance) -> Vec<u8> {
     let mut draft = Draft::default();
     for rule in 0..16u8 {
-        let (start, more) = draft.free_rule(&[rule, LAST - rule], START);
+        let (start, more) = draft.free_rule(&[rule, alphabet.last() - rule], START);
         for _ in 0..16 {
-            let (first, next) = (chance.symbol(), chance.below(8) as u8);
+            let (first, next) = (alphabet.any(chance), alphabet.lower_half().any(chance));
             draft.arc(start, first, first, more);
             draft.arc(more, next, next, more);
         }
@@ -143,77 +142,77 @@ pub fn dense(chance: &mut Chance) -> Vec<u8> {
     draft.end()
 }
 
-/// One left part that asks for a symbol above 7 exactly eight places before.
-fn eight_before(draft: &mut Draft) -> Vec<[u8; 4]> {
+/// One left part that asks for a symbol of the upper half exactly eight places before.
+fn eight_before(draft: &mut Draft, alphabet: Alphabet) -> Vec<[u8; 4]> {
     draft.state(LEFT, START);
     let mut arcs = Vec::new();
     for k in 0..8 {
         let next = draft.state(LEFT, if k == 7 { ACCEPT } else { NEITHER });
-        arcs.push([next - 1, if k == 0 { 8 } else { 0 }, LAST, next]);
+        arcs.push([next - 1, if k == 0 { alphabet.eighth(4) } else { 0 }, alphabet.last(), next]);
     }
     arcs
 }
 
-/// One right part that asks for a symbol above 7 exactly seven places on.
-fn seven_on(draft: &mut Draft) -> Vec<[u8; 4]> {
+/// One right part that asks for a symbol of the upper half exactly seven places on.
+fn seven_on(draft: &mut Draft, alphabet: Alphabet) -> Vec<[u8; 4]> {
     draft.state(RIGHT, START);
     let mut arcs = Vec::new();
     for k in 0..7 {
         let next = draft.state(RIGHT, if k == 6 { ACCEPT } else { NEITHER });
-        arcs.push([next - 1, if k == 6 { 8 } else { 0 }, LAST, next]);
+        arcs.push([next - 1, if k == 6 { alphabet.eighth(4) } else { 0 }, alphabet.last(), next]);
     }
     arcs
 }
 
 /// One rule with 256 sets a side: the left set keeps eight symbols, the right set seven and whether a focus begins.
-pub fn full_sets() -> Vec<u8> {
+pub fn full_sets(alphabet: Alphabet) -> Vec<u8> {
     let mut draft = Draft::default();
     draft.rule(&[0]);
-    let mut arcs = eight_before(&mut draft);
-    arcs.extend(one_symbol(&mut draft));
-    arcs.extend(seven_on(&mut draft));
+    let mut arcs = eight_before(&mut draft, alphabet);
+    arcs.extend(one_symbol(&mut draft, alphabet));
+    arcs.extend(seven_on(&mut draft, alphabet));
     arcs.iter().for_each(|[from, low, high, to]| draft.arc(*from, *low, *high, *to));
     draft.end()
 }
 
-/// A focus of one symbol from 4 to 11.
-fn one_symbol(draft: &mut Draft) -> Vec<[u8; 4]> {
+/// A focus of one symbol of the middle half.
+fn one_symbol(draft: &mut Draft, alphabet: Alphabet) -> Vec<[u8; 4]> {
     let (start, end) = (draft.state(FOCUS, START), draft.state(FOCUS, ACCEPT));
-    vec![[start, 4, 11, end]]
+    vec![[start, alphabet.eighth(2), alphabet.eighth(6) - 1, end]]
 }
 
 /// The same sets with 64 states and 512 arcs, all in one rule: each part stands there several times, and so does each arc.
-pub fn largest() -> Vec<u8> {
+pub fn largest(alphabet: Alphabet) -> Vec<u8> {
     let mut draft = Draft::default();
     draft.rule(&[0]);
     let mut arcs = Vec::new();
-    (0..4).for_each(|_| arcs.extend(eight_before(&mut draft)));
-    (0..3).for_each(|_| arcs.extend(seven_on(&mut draft)));
-    arcs.extend(one_symbol(&mut draft));
+    (0..4).for_each(|_| arcs.extend(eight_before(&mut draft, alphabet)));
+    (0..3).for_each(|_| arcs.extend(seven_on(&mut draft, alphabet)));
+    arcs.extend(one_symbol(&mut draft, alphabet));
     while draft.states < 64 {
         let looped = draft.state(LEFT, BOTH);
-        arcs.push([looped, 0, LAST, looped]);
+        arcs.push([looped, 0, alphabet.last(), looped]);
     }
     arcs.iter().cycle().take(ARCS).for_each(|[from, low, high, to]| draft.arc(*from, *low, *high, *to));
     draft.end()
 }
 
 /// Sixteen rules of which every stretch of every tape is a candidate, but for the empty ones: libraries before request 5 take it too.
-pub fn every_stretch() -> Vec<u8> {
-    every(START)
+pub fn every_stretch(alphabet: Alphabet) -> Vec<u8> {
+    every(alphabet, START)
 }
 
 /// The same with the empty ones: as many candidates as there can be.
-pub fn every_candidate() -> Vec<u8> {
-    every(BOTH)
+pub fn every_candidate(alphabet: Alphabet) -> Vec<u8> {
+    every(alphabet, BOTH)
 }
 
-fn every(first: u8) -> Vec<u8> {
+fn every(alphabet: Alphabet, first: u8) -> Vec<u8> {
     let mut draft = Draft::default();
     for rule in 0..16u8 {
         let (start, more) = draft.free_rule(&[rule], first);
-        draft.arc(start, 0, LAST, more);
-        draft.arc(more, 0, LAST, more);
+        draft.arc(start, 0, alphabet.last(), more);
+        draft.arc(more, 0, alphabet.last(), more);
     }
     draft.end()
 }
@@ -230,14 +229,14 @@ pub fn every_place() -> Vec<u8> {
 
 /// A rule for each length of a word, 0 to 8, so that every place in a word has an origin to compare; not timed. A focus is one symbol, a
 /// different one in each rule, and then any number of symbols above 8.
-pub fn word_lengths() -> Vec<u8> {
+pub fn word_lengths(alphabet: Alphabet) -> Vec<u8> {
     const LONGEST: u8 = WORD as u8;
     let mut draft = Draft::default();
     for length in 0..=LONGEST {
         let word: Vec<u8> = (0..length).collect();
         let (start, more) = draft.free_rule(&word, START);
         draft.arc(start, length, length, more);
-        draft.arc(more, LONGEST + 1, LAST, more);
+        draft.arc(more, LONGEST + 1, alphabet.last(), more);
     }
     draft.end()
 }
@@ -258,27 +257,27 @@ pub fn inserted_lengths() -> Vec<u8> {
 
 /// The states of `no_two_alike` that accept, the classes of symbols that move them, and how many of them every set holds.
 const MOVED: usize = 61;
-const CLASSES: usize = 7;
+const CLASSES: u8 = 7;
 pub const HELD: usize = 45;
 
 /// One rule with 62 focus states and 512 arcs: each class of symbols moves all accepting states about, so that a focus
 /// set keeps its size and hardly ever comes again. Every stretch of every tape is a candidate.
-pub fn no_two_alike(chance: &mut Chance) -> Vec<u8> {
+pub fn no_two_alike(alphabet: Alphabet, chance: &mut Chance) -> Vec<u8> {
     let mut draft = Draft::default();
     draft.rule(&[0]);
     draft.any(LEFT);
     draft.any(RIGHT);
     let start = draft.state(FOCUS, START);
     let moved: Vec<u8> = (0..MOVED).map(|_| draft.state(FOCUS, ACCEPT)).collect();
-    for class in 0..CLASSES as u8 {
-        let high = if class as usize == CLASSES - 1 { LAST } else { 2 * class + 1 };
+    for class in 0..CLASSES {
+        let last = if class == CLASSES - 1 { alphabet.last() } else { alphabet.eighth(class + 1) - 1 };
         for (from, to) in chance.order(MOVED).into_iter().enumerate() {
-            draft.arc(moved[from], 2 * class, high, moved[to]);
+            draft.arc(moved[from], alphabet.eighth(class), last, moved[to]);
         }
     }
     let held = chance.order(MOVED);
     for k in 0..ARCS - draft.arcs {
-        draft.arc(start, 0, LAST, moved[held[k % HELD]]);
+        draft.arc(start, 0, alphabet.last(), moved[held[k % HELD]]);
     }
     draft.end()
 }

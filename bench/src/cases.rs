@@ -1,5 +1,6 @@
 //! Every book and the tapes that it is tried on.
 
+use crate::alphabet::Alphabet;
 use crate::answer::TAPE;
 use crate::chance::Chance;
 use crate::{books, tapes};
@@ -27,22 +28,22 @@ pub struct Cases {
 }
 
 impl Cases {
-    pub fn new(chance: &mut Chance) -> Cases {
+    pub fn new(alphabet: Alphabet, chance: &mut Chance) -> Cases {
         Cases {
             house: books::house(),
             turn: books::turn(),
             lap: books::lap(),
-            dense: books::dense(chance),
-            full: books::full_sets(),
-            largest: books::largest(),
-            every: books::every_stretch(),
-            most: books::every_candidate(),
+            dense: books::dense(alphabet, chance),
+            full: books::full_sets(alphabet),
+            largest: books::largest(alphabet),
+            every: books::every_stretch(alphabet),
+            most: books::every_candidate(alphabet),
             places: books::every_place(),
-            alike: books::no_two_alike(chance),
-            lengths: books::word_lengths(),
+            alike: books::no_two_alike(alphabet, chance),
+            lengths: books::word_lengths(alphabet),
             inserted: books::inserted_lengths(),
             pool: (0..POOL_TAPES).map(|_| tapes::pool(chance)).collect(),
-            random: (0..POOL_TAPES).map(|_| tapes::random(TAPE, chance)).collect(),
+            random: (0..POOL_TAPES).map(|_| tapes::random(TAPE, alphabet, chance)).collect(),
             one_stretch: vec![tapes::one_stretch()],
             no_candidate: (0..POOL_TAPES).map(|_| tapes::no_candidate(chance)).collect(),
         }

@@ -23,10 +23,6 @@ impl Chance {
         low + self.below(high - low + 1)
     }
 
-    pub fn symbol(&mut self) -> u8 {
-        self.below(16) as u8
-    }
-
     /// The numbers below `count` in some order.
     pub fn order(&mut self, count: usize) -> Vec<usize> {
         let mut order: Vec<usize> = (0..count).collect();

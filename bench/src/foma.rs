@@ -1,5 +1,6 @@
 //! foma, through its library: the turn rule of the house book as a replacement with a context, and a tape as a word of letters.
 
+use crate::answer::SYMBOLS;
 use std::ffi::{c_char, c_void, CStr, CString};
 use std::ptr::null_mut;
 
@@ -13,11 +14,14 @@ extern "C" {
     fn apply_down(handle: *mut c_void, word: *mut c_char) -> *mut c_char;
 }
 
-/// Symbol 0 is a, 1 is b, and so on: press c, hold d, release e, push f, turn i.
+/// Of the symbols, from 0 on; to foma the digit 0 is the empty word.
+const LETTERS: &[u8; SYMBOLS] = b"abcdefghijklmnopqrstuvwxyzABCDEF";
+
+/// Press c, hold d, release e, push f, turn i.
 const TURN: &str = "[c d* e] @-> i || _ f";
 
-fn letter(symbol: u8) -> u8 {
-    b'a' + symbol
+fn symbol(letter: u8) -> u8 {
+    LETTERS.iter().position(|one| *one == letter).expect("a letter of a symbol") as u8
 }
 
 pub fn version() -> String {
@@ -26,7 +30,7 @@ pub fn version() -> String {
 
 /// A tape as foma takes it, made before the clock runs.
 pub fn word(tape: &[u8]) -> CString {
-    CString::new(tape.iter().map(|symbol| letter(*symbol)).collect::<Vec<u8>>()).expect("letters")
+    CString::new(tape.iter().map(|symbol| LETTERS[*symbol as usize]).collect::<Vec<u8>>()).expect("letters")
 }
 
 /// The compiled rule, ready to be applied.
@@ -56,7 +60,7 @@ impl Turn {
     }
 
     pub fn output(&mut self, tape: &[u8]) -> Vec<u8> {
-        self.apply(&word(tape)).to_bytes().iter().map(|byte| byte - letter(0)).collect()
+        self.apply(&word(tape)).to_bytes().iter().map(|letter| symbol(*letter)).collect()
     }
 }
 

@@ -13,9 +13,10 @@ mod proved;
 mod table;
 mod walks;
 
+use alphabet::Alphabet;
 use answer::{RULES, TAPE};
 use bench::cases::{Cases, SEED};
-use bench::{answer, books, chance, tapes};
+use bench::{alphabet, answer, books, chance, tapes};
 use chance::Chance;
 use clock::Pace;
 use measure::Peers;
@@ -43,7 +44,7 @@ fn main() {
     let short = std::env::args().nth(1).is_some_and(|word| word == "short");
     let pace = Pace { slice: 1e-3, rounds: if short { 15 } else { 61 }, spend: if short { 1.0 } else { 4.0 } };
     let chance = &mut Chance::new(SEED);
-    let cases = Cases::new(chance);
+    let cases = Cases::new(Alphabet::WHOLE, chance);
     agree(&cases, chance);
     introduce();
     rewrite(&cases, pace);

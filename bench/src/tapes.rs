@@ -1,5 +1,6 @@
 //! The tapes that are measured.
 
+use crate::alphabet::Alphabet;
 use crate::answer::TAPE;
 use crate::chance::Chance;
 
@@ -30,8 +31,8 @@ fn touch(chance: &mut Chance, after: &[u8], tape: &mut Vec<u8>) {
 }
 
 /// Every symbol as likely as any other.
-pub fn random(length: usize, chance: &mut Chance) -> Vec<u8> {
-    (0..length).map(|_| chance.symbol()).collect()
+pub fn random(length: usize, alphabet: Alphabet, chance: &mut Chance) -> Vec<u8> {
+    (0..length).map(|_| alphabet.any(chance)).collect()
 }
 
 /// One turn: a press, holds and a release, before a push.

@@ -1,6 +1,8 @@
-//! inputs DIR: the inputs that stack.c and since.c measure each operation on. DIR/names has a name a line; NAME.book and NAME.tape are the bytes.
-//! A program of its own, so that it needs neither the library nor its peers.
+//! inputs DIR [SYMBOLS]: the inputs that stack.c and since.c measure each operation on. DIR/names has a name a line; NAME.book and NAME.tape are the
+//! bytes. Books and tapes have that many symbols, for an earlier library that has fewer; where no number is said, all. A program of its own, so that
+//! it needs neither the library nor its peers.
 
+use bench::alphabet::Alphabet;
 use bench::answer::{SYMBOLS, TAPE};
 use bench::cases::{Cases, SEED};
 use bench::chance::Chance;
@@ -12,8 +14,11 @@ const FEW: usize = 64;
 const CUT: usize = 100;
 
 fn main() -> std::io::Result<()> {
-    let folder = PathBuf::from(std::env::args().nth(1).expect("inputs DIR"));
-    let cases = Cases::new(&mut Chance::new(SEED));
+    let mut words = std::env::args().skip(1);
+    let folder = PathBuf::from(words.next().expect("inputs DIR"));
+    let alphabet =
+        words.next().map_or(Alphabet::WHOLE, |symbols| Alphabet(symbols.parse().expect("a number of symbols")));
+    let cases = Cases::new(alphabet, &mut Chance::new(SEED));
     let few = &cases.random[0][..FEW];
     let inputs: [(&str, &[u8], &[u8]); 15] = [
         ("house book, pool-like tape", &cases.house, &cases.pool[0]),
@@ -28,7 +33,7 @@ fn main() -> std::io::Result<()> {
         ("every stretch, empty ones too", &cases.most, few),
         ("no two focus sets alike", &cases.alike, few),
         ("a tape that is too long", &cases.house, &[0; TAPE + 1]),
-        ("a symbol above 15", &cases.house, &[SYMBOLS as u8; FEW]),
+        ("a symbol that is none", &cases.house, &[SYMBOLS as u8; FEW]),
         ("a cut book", &cases.house[..CUT], few),
         ("the empty book", &[], &[]),
     ];
