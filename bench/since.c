@@ -2,8 +2,8 @@
  *
  * since DIR: DIR holds what src/bin/inputs.rs writes. The functions of the earlier library have the names before_*, those of this tree's the
  * names now_*. Each number is the median over ROUNDS of the quotient of two neighbouring turns, by the thread's own time on the processor.
- * Behind it stands "refused" where both refuse. Where the replies differ they stand alone, this tree's first: the work is not the same, as with
- * a book that a later request allows. */
+ * Behind it stands "refused" where both refuse, and "differs" where the two answer or leave another thing, as origins do that a later request
+ * changes. Where the replies differ they stand alone, this tree's first: the work is not the same, as with a book that a later request allows. */
 #define _POSIX_C_SOURCE 199309L
 #include <stdio.h>
 #include <stdlib.h>
@@ -15,7 +15,7 @@
 enum {
     ROUNDS = 301,
     TURN = 1000000,  /* nanoseconds that a turn takes at least */
-    ROOM = 1 << 14,  /* more than any book or tape of the inputs has, and than any workspace needs */
+    ROOM = 1 << 14,  /* more than any book or tape of the inputs has */
     WORDS = 1 << 19, /* of an account */
     PIECE = 64,      /* symbols of a lane in a heat of pieces */
     HEAT_OUT = QAFRENDI_MOST_LANES * QAFRENDI_LONGEST_OUT,
@@ -31,36 +31,56 @@ enum {
 FUNCTIONS(before)
 FUNCTIONS(now)
 
-static uint8_t book[ROOM], tape[ROOM], rows[ROOM], scratch[ROOM], out[HEAT_OUT];
-static uint64_t sets[ROOM];
+/* A workspace as long as this tree's library needs it; an earlier one needs no more. */
+static uint8_t book[ROOM], tape[ROOM], rows[QAFRENDI_ROW_BYTES], scratch[QAFRENDI_SCRATCH], out[HEAT_OUT];
+static uint64_t sets[QAFRENDI_SET_WORDS];
 static uint16_t origins[HEAT_OUT], lines[WORDS];
 static size_t book_length, tape_length;
 static qafrendi_lane whole[QAFRENDI_MOST_LANES], pieces[QAFRENDI_MOST_LANES]; /* each lane the tape; each a piece of it, one after the other */
 
-/* Each side of each operation: what it does once, and its reply. */
+#define LENT_WORKSPACE rows, QAFRENDI_ROW_BYTES, sets, QAFRENDI_SET_WORDS
+#define LENT_SCRATCH scratch, QAFRENDI_SCRATCH
+
+/* What a call answers, its counts in their order. */
+struct answer {
+    size_t reply, place, counts[3];
+};
+
+/* Each side of each operation: what it does once. */
 #define SIDES(side) \
-    static int side##_check_once(void) { return side##_check(book, book_length).reply; } \
-    static int side##_build_once(void) { return side##_build(book, book_length, rows, ROOM, sets, ROOM).reply; } \
-    static int side##_rewrite_once(void) \
+    static struct answer side##_check_once(void) \
     { \
-        return side##_rewrite(book, book_length, tape, tape_length, rows, ROOM, sets, ROOM, scratch, ROOM, \
-            out, QAFRENDI_LONGEST_OUT, origins, QAFRENDI_LONGEST_OUT).reply; \
+        qafrendi_checked r = side##_check(book, book_length); \
+        return (struct answer){r.reply, r.place, {r.rules, r.states, r.arcs}}; \
     } \
-    static int side##_account_once(void) \
+    static struct answer side##_build_once(void) \
     { \
-        return side##_account(book, book_length, tape, tape_length, rows, ROOM, sets, ROOM, scratch, ROOM, lines, WORDS).reply; \
+        qafrendi_built r = side##_build(book, book_length, LENT_WORKSPACE); \
+        return (struct answer){r.reply, r.place, {r.left, r.right, 0}}; \
     } \
-    static int side##_heat_of(qafrendi_lane *lanes) \
+    static struct answer side##_rewrite_once(void) \
     { \
-        return side##_heat(book, book_length, tape, tape_length, lanes, QAFRENDI_MOST_LANES, rows, ROOM, sets, ROOM, scratch, ROOM, \
-            out, HEAT_OUT, origins, HEAT_OUT).reply; \
+        qafrendi_rewritten r = side##_rewrite( \
+            book, book_length, tape, tape_length, LENT_WORKSPACE, LENT_SCRATCH, out, QAFRENDI_LONGEST_OUT, origins, QAFRENDI_LONGEST_OUT); \
+        return (struct answer){r.reply, r.place, {r.length, r.taken, 0}}; \
     } \
-    static int side##_heat_once(void) { return side##_heat_of(whole); } \
-    static int side##_pieces_once(void) { return side##_heat_of(pieces); }
+    static struct answer side##_account_once(void) \
+    { \
+        qafrendi_accounted r = side##_account(book, book_length, tape, tape_length, LENT_WORKSPACE, LENT_SCRATCH, lines, WORDS); \
+        return (struct answer){r.reply, r.place, {r.candidates, 0, 0}}; \
+    } \
+    static struct answer side##_heat_of(qafrendi_lane *lanes) \
+    { \
+        qafrendi_heated r = side##_heat( \
+            book, book_length, tape, tape_length, lanes, QAFRENDI_MOST_LANES, LENT_WORKSPACE, LENT_SCRATCH, out, HEAT_OUT, origins, HEAT_OUT); \
+        return (struct answer){r.reply, r.place, {0, 0, 0}}; \
+    } \
+    static struct answer side##_heat_once(void) { return side##_heat_of(whole); } \
+    static struct answer side##_pieces_once(void) { return side##_heat_of(pieces); }
 SIDES(now)
 SIDES(before)
 
-typedef int call(void);
+typedef struct answer call(void);
 
 static const struct operation {
     const char *name;
@@ -119,6 +139,56 @@ static double ratio(const struct operation *o)
     return quotients[ROUNDS / 2];
 }
 
+/* The lanes over the tape, all their other fields clear. */
+static void place_lanes(void)
+{
+    memset(whole, 0, sizeof whole);
+    memset(pieces, 0, sizeof pieces);
+    for (size_t i = 0; i < QAFRENDI_MOST_LANES; i++) {
+        whole[i].length = tape_length;
+        pieces[i].start = i * PIECE % (tape_length + 1);
+        pieces[i].length = tape_length - pieces[i].start < PIECE ? tape_length - pieces[i].start : PIECE;
+    }
+}
+
+/* The sum with these bytes added; the place of each counts. */
+static uint64_t added(uint64_t sum, const void *from, size_t bytes)
+{
+    const uint8_t *at = from;
+    for (size_t i = 0; i < bytes; i++)
+        sum = (sum ^ at[i]) * 0x100000001b3;
+    return sum;
+}
+
+static uint64_t added_lanes(uint64_t sum, const qafrendi_lane *lanes)
+{
+    for (size_t i = 0; i < QAFRENDI_MOST_LANES; i++) {
+        size_t fields[] = {lanes[i].out, lanes[i].taken, lanes[i].reply, lanes[i].place};
+        sum = added(sum, fields, sizeof fields);
+    }
+    return sum;
+}
+
+/* A sum of what a call leaves in buffers and lanes that were clear before. The rows are not in it: how long they are follows from the number of
+ * symbols, which another library may have otherwise. */
+static uint64_t left_by(call *f, struct answer *answer)
+{
+    place_lanes();
+    memset(sets, 0, sizeof sets);
+    memset(scratch, 0, sizeof scratch);
+    memset(out, 0, sizeof out);
+    memset(origins, 0, sizeof origins);
+    memset(lines, 0, sizeof lines);
+    *answer = f();
+    uint64_t sum = added(0, answer, sizeof *answer);
+    sum = added(sum, sets, sizeof sets);
+    sum = added(sum, scratch, sizeof scratch);
+    sum = added(sum, out, sizeof out);
+    sum = added(sum, origins, sizeof origins);
+    sum = added(sum, lines, sizeof lines);
+    return added_lanes(added_lanes(sum, whole), pieces);
+}
+
 static size_t load(uint8_t *to, const char *folder, const char *name, const char *kind)
 {
     char path[2 * TEXT];
@@ -141,18 +211,14 @@ static void measure(const char *folder, const char *name)
 {
     book_length = load(book, folder, name, ".book");
     tape_length = load(tape, folder, name, ".tape");
-    for (size_t i = 0; i < QAFRENDI_MOST_LANES; i++) {
-        whole[i].length = tape_length;
-        pieces[i].start = i * PIECE % (tape_length + 1);
-        pieces[i].length = tape_length - pieces[i].start < PIECE ? tape_length - pieces[i].start : PIECE;
-    }
     printf("%-32s", name);
     for (int i = 0; i < common(); i++) {
-        int now = operations[i].now(), before = operations[i].before();
-        if (now == before)
-            printf("  x%.2f %-8s", ratio(&operations[i]), now ? "refused" : "");
+        struct answer now, before;
+        int same = left_by(operations[i].now, &now) == left_by(operations[i].before, &before);
+        if (now.reply == before.reply)
+            printf("  x%.2f %-8s", ratio(&operations[i]), !same ? "differs" : now.reply ? "refused" : "");
         else
-            printf("  %2d, %2d        ", now, before);
+            printf("  %2zu, %2zu        ", now.reply, before.reply);
         fflush(stdout);
     }
     printf("\n");
