@@ -17,6 +17,8 @@ pub mod Walk
 pub mod Placing
 pub mod Masking
 pub mod Outlining
+-- CHECK with fewer symbols.
+pub mod Before
 -- What the crates above may rely on.
 pub mod Claims
 pub mod OneMasks

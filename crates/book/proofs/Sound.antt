@@ -60,7 +60,7 @@ symbol-low : (n i x : ℕ) → symbolFits n i x ≡ true → i < n → x < symbo
 unfolding symbolFits
 symbol-low n i x e h = ltb-true x symbolCount (rw (lt-ltb i n h) at e)
 
-word-fits : (s : List ℕ) (at rules : ℕ) → ruleReply s at rules ≡ 0 → (rules < mostRules) × WordFits (wordAt s at)
+pub word-fits : (s : List ℕ) (at rules : ℕ) → ruleReply s at rules ≡ 0 → (rules < mostRules) × WordFits (wordAt s at)
 unfolding ruleReply
 word-fits s at rules e =
     let a = test-passed (leb mostRules rules) 2 _ e in

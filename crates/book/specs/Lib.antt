@@ -3,6 +3,8 @@ pub mod Format
 pub mod Reading
 pub mod Language
 pub mod StateSets
+-- The reading before a request of document 02, for the theorems that say what stays.
+pub mod Before
 -- For the contracts of inner functions, and for the crates above: each is proved of what the believed files say.
 pub mod Scanning
 pub mod Outline

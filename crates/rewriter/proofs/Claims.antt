@@ -2,14 +2,18 @@
 -- crates/stretches/specs. No hypothesis on the book or the tape, but where an accepted book is named.
 use Prim.Native.Nat.{ℕ, _+_, _*_, _≤_, _<_}
 use mathlib.Core.List.{List, [], _∷_, map, List·Memᴰ}
-use mathlib.Core.Path.{_≡_, ap}
+use mathlib.Core.Path.{_≡_, sym, ap, _∙_}
 use mathlib.Core.Logic.{_↔_, _⊎_}
-use mathlib.Core.Bool.{false, _&&_}
+use mathlib.Core.Bool.{true, false, _&&_}
 use lib.ListN.{length, take, drop, getD}
 use lib.Seq.{slice, slice-empty}
-use Rattle.book.specs.Format.{longestWord}
-use Rattle.book.specs.Reading.{Book, checkDef}
+use Rattle.book.specs.Format.{symbolCount, longestWord}
+use Rattle.book.specs.Reading.{Book, checkDef, bookOf}
 use Rattle.book.specs.Language.{Rules, rules, rulesIn}
+use Rattle.book.specs.Before.{high, highBook, onNoArc, checkBelow, bookBelow}
+use Rattle.sets.specs.Sets.{leftFirst, leftNext, rightLast, rightPrev}
+use Rattle.sets.specs.Workspace.{rowBytes, setWords, buildDef}
+use Rattle.sets.specs.Before.{bytesBelow, buildBelow, AsBefore}
 use Rattle.stretches.specs.Candidates.{candidate, ruleOf, taken}
 use Rattle.stretches.specs.Output.{Mark, marks, ruleWord, written, rewriting, symbolsOf, originsOf}
 use Rattle.stretches.specs.Account.{Line, account, lineLength, wordsIn}
@@ -21,7 +25,7 @@ use Rattle.stretches.specs.Sentences.{Candidate, Taken, Takes, TakesBy, Rising,
 use Rattle.stretches.specs.Sentences.{Judged, Decides, takenLines, lineOf}
 use Rattle.stretches.specs.Sentences.{Chain, replace, removed, writes, covered, keptSymbols, writtenWords, Shuffled}
 use Rattle.stretches.specs.Sentences.{symbolsFrom, originsFrom, Traced, NeverFalls}
-use Rattle.stretches.specs.Before.{replaceAtStarts, ShortWords}
+use Rattle.stretches.specs.Before.{replaceAtStarts, ShortWords, rulesBelow}
 use Rattle.stretches.specs.Books.{bookP}
 use Rattle.stretches.specs.Table.{rewritten, rows, tape8, table}
 use Rattle.stretches.specs.Times.{timed, both-times}
@@ -39,6 +43,9 @@ use Rattle.stretches.proofs.Kept as Kept
 use Rattle.stretches.proofs.Origins as Origins
 use Rattle.stretches.proofs.Rising as Rising
 use Rattle.stretches.proofs.Before as Before
+use Rattle.stretches.proofs.Agreeing as Agreeing
+use Rattle.book.proofs.Before as BookBefore
+use Rattle.sets.proofs.Before as SetsBefore
 use Rattle.stretches.proofs.WordMarks as WordMarks
 use Rattle.stretches.proofs.Counts as Counts
 use Rattle.stretches.proofs.Batches as Batches
@@ -266,3 +273,46 @@ module _ (s t rows sets scratch out origins : List ℕ) where
   pub printed-never-fall : (clock : List ℕ) → NeverFalls clock → length t < length clock → (j k : ℕ) → j ≤ k → k < after .answer .length
       → getD clock (getD (after .origins) j 0) 0 ≤ getD clock (getD (after .origins) k 0) 0
   printed-never-fall = TimesAfter.times-print s t rows sets scratch out origins
+
+-- 8. Document 02, No. 6: "Accounts and outputs of old books on old tapes do not change where the book still builds." An old tape has the first n symbols
+-- alone: whatever the rules, it is all one whether a language has words of other symbols too.
+module _ (n : ℕ) (b : Rules) (t : List ℕ) (low : high n t ≡ false) where
+  pub old-tape-output : rewriting (rulesBelow n b) t ≡ rewriting b t
+  old-tape-output = Agreeing.rewriting-below n b t low
+
+  pub old-tape-account : account (rulesBelow n b) t ≡ account b t
+  old-tape-account = Agreeing.account-below n b t low
+
+-- An old book is one that CHECK accepts where there are the first n symbols alone. It is still accepted, with the same counts, as the same rules; on an old tape it
+-- has the output and the account that it had; and BUILD answers of it what it did, with the same sets and numbers, in rows that agree on the first n entries.
+module _ (n : ℕ) (s : List ℕ) (old : checkBelow n s .reply ≡ 0) where
+  pub old-accepted : checkDef s ≡ checkBelow n s
+  old-accepted = BookBefore.old-check n s old
+
+  pub old-output : (t : List ℕ) → high n t ≡ false → rewriting (rulesIn s) t ≡ rewriting (rulesBelow n (rules (bookBelow n s))) t
+  old-output t low = ap (λ (b : Book). rewriting (rules b) t) (BookBefore.old-book n s old) ∙ sym (old-tape-output n (rules (bookBelow n s)) t low)
+
+  pub old-account : (t : List ℕ) → high n t ≡ false → account (rulesIn s) t ≡ account (rulesBelow n (rules (bookBelow n s))) t
+  old-account t low = ap (λ (b : Book). account (rules b) t) (BookBefore.old-book n s old) ∙ sym (old-tape-account n (rules (bookBelow n s)) t low)
+
+  pub old-build : n ≤ symbolCount → (rows rows₀ sets : List ℕ) → rowBytes ≤ length rows → bytesBelow n ≤ length rows₀ → setWords ≤ length sets
+      → AsBefore n (buildBelow n s rows₀ sets) (buildDef s rows sets)
+  old-build fits rows rows₀ sets = SetsBefore.build-before n fits s rows rows₀ sets old
+
+-- Every book that has the first n symbols alone is an old one; and with all symbols that there are CHECK and BUILD are those of before.
+pub book-is-old : (n : ℕ) (s : List ℕ) → checkDef s .reply ≡ 0 → highBook n (bookOf s) ≡ false → checkBelow n s ≡ checkDef s
+book-is-old = BookBefore.check-old
+
+pub all-symbols-check : (s : List ℕ) → checkBelow symbolCount s ≡ checkDef s
+all-symbols-check = BookBefore.check-now
+
+pub all-symbols-build : (s rows sets : List ℕ) → buildBelow symbolCount s rows sets ≡ buildDef s rows sets
+all-symbols-build = SetsBefore.build-now
+
+-- What makes it so: a symbol on no arc leads back to the set of the empty tape, number 0, on either side.
+module _ (b : Book) (set a : ℕ) (shut : onNoArc b a ≡ true) where
+  pub left-returns : leftNext b set a ≡ leftFirst b
+  left-returns = SetsBefore.left-back b set a shut
+
+  pub right-returns : rightPrev b set a ≡ rightLast b
+  right-returns = SetsBefore.right-back b set a shut

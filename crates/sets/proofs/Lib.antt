@@ -15,6 +15,9 @@ pub mod Counts
 pub mod Parts
 pub mod WaysOut
 pub mod Tables
+-- BUILD with fewer symbols: the numbering with shorter rows, and the workspace.
+pub mod Widths
+pub mod Before
 -- What the sets hold: runs of any machine, a book as a machine, the sets along a tape in document 01's words.
 pub mod Runs
 pub mod Bridge

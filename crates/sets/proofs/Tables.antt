@@ -24,10 +24,10 @@ use Rattle.sets.proofs.WaysOut.{Way, refused, short, many-left, many-ri
 
 -- two parts of n elements, each with zeros after what it holds, and what stands past them
 module _ (n : ℕ) (P Q T : List ℕ) (hp : length P ≤ n) (hq : length Q ≤ n) where
-  part-one : (i : ℕ) → i < n → getD (pad n P ++ (pad n Q ++ T)) i 0 ≡ getD P i 0
+  pub part-one : (i : ℕ) → i < n → getD (pad n P ++ (pad n Q ++ T)) i 0 ≡ getD P i 0
   part-one i h = List·getD-append (pad n P) _ 0 i (omega (arith, length-pad n P hp)) ∙ getD-pad-all n P i
 
-  part-two : (i j : ℕ) → i < n → j ≡ n + i → getD (pad n P ++ (pad n Q ++ T)) j 0 ≡ getD Q i 0
+  pub part-two : (i j : ℕ) → i < n → j ≡ n + i → getD (pad n P ++ (pad n Q ++ T)) j 0 ≡ getD Q i 0
   part-two i j h e =
       let q : j ≡ length (pad n P) + i = omega (arith, length-pad n P hp) in
       ap (λ (k : ℕ). getD (pad n P ++ (pad n Q ++ T)) k 0) q

@@ -3,6 +3,8 @@ pub mod Sets
 pub mod Numbering
 pub mod Workspace
 pub mod Counting
+-- BUILD before a request of document 02, for the theorem that says what stays.
+pub mod Before
 -- For the crates above: what a reader of a built workspace may rely on, and the pruned walk; each is proved of what the believed files say.
 pub mod Tables
 pub mod Focus

@@ -23,6 +23,7 @@ pub mod Kept
 pub mod Origins
 pub mod Rising
 pub mod Before
+pub mod Agreeing
 pub mod Batches
 -- Laws of the passes over a tape, position after position: that the sets find the candidates, and that what is found is what is taken.
 pub mod CandidateSets
