@@ -1,18 +1,19 @@
 -- The table after j pairs as it stands in the slices, and what one turn of the code does to it. Assumes nothing.
-use Prim.Native.Nat.{ℕ, _+_, _-_, _*_, _/_, _%_, _≤_, _<_, zero-le}
+use Prim.Native.Nat.{ℕ, zero, suc, _+_, _-_, _*_, _/_, _%_, _≤_, _<_, zero-le}
 use mathlib.Core.Path.{_≡_, refl, sym, ap, ap₂, _∙_, subst}
 use mathlib.Core.List.{List, [], _∷_, _++_}
 use native.Mathlib.Omega.{arith}
-use lib.ListN.{length, getD, take, set, length-append, length-set}
+use lib.ListN.{length, getD, take, set, length-append, length-set, List·getD-eq-default}
 use Rattle.book.specs.Format.{symbolCount}
 use Rattle.sets.specs.Numbering.{mostSets, pairs, idx, next, run, all, pad}
 use Rattle.sets.specs.Sides.{Clear, Numbered}
-use Rattle.sets.proofs.Pad.{take-pad, getD-pad, set-pad, length-pad}
+use Rattle.sets.specs.Stepping.{NoStepFrom}
+use Rattle.sets.proofs.Pad.{take-pad, getD-pad, getD-pad-all, set-pad, length-pad}
 use native.Mathlib.Numerals.{add-one}
-use native.Mathlib.Nat.{add-zero}
+use native.Mathlib.Nat.{add-zero, zero-add, le-of-eq}
 use lib.Seq.{getD-set-other, length-take-le, take-suc-set}
 use Rattle.sets.proofs.Idx.{idx-le, idx-same, idx-snoc}
-use Rattle.sets.proofs.Turns.{Turned, idle, old, new, ran, all-more, all-done}
+use Rattle.sets.proofs.Turns.{Turned, idle, old, new, ran, grows, all-more, all-done}
 
 pub record At (f : ℕ → ℕ → ℕ) (s j : ℕ) (R S : List ℕ) (n : ℕ) : Type 0 where
   pub count : n ≡ length ((run f s j) .sets)
@@ -26,6 +27,18 @@ pub record At (f : ℕ → ℕ → ℕ) (s j : ℕ) (R S : List ℕ) (n : ℕ) :
 module _ (f : ℕ → ℕ → ℕ) (s j : ℕ) (R S : List ℕ) (n : ℕ) (at : At f s j R S n) where
   in-hand : take n S ≡ (run f s j) .sets
   in-hand = rw (at .sets) (take-pad mostSets ((run f s j) .sets) n (at .count))
+
+  -- the next entry of the row is 0 still
+  pub kept : set R j 0 ≡ R
+  kept =
+      let e = at .rows in
+      ap (λ (l : List ℕ). set l j 0) e ∙ set-zero (pad pairs ((run f s j) .rows)) j (getD-pad-all pairs ((run f s j) .rows) j
+      ∙ List·getD-eq-default ((run f s j) .rows) 0 (le-of-eq (at .width))) ∙ sym e
+    where
+      set-zero : (l : List ℕ) (i : ℕ) → getD l i 0 ≡ 0 → set l i 0 ≡ l
+      set-zero [] i e = refl
+      set-zero (x ∷ l) zero e = ap (λ (y : ℕ). y ∷ l) (sym e)
+      set-zero (x ∷ l) (suc i) e = ap (λ (y : List ℕ). x ∷ y) (set-zero l i e)
 
   module _ (k a : ℕ) (ej : j ≡ symbolCount * k + a) (ha : a < symbolCount) (hk : k < n) (x m : ℕ) (ex : x ≡ f (getD S k 0) a) (em : m ≡ idx (take n S) x) where
     is-next : x ≡ next f j ((run f s j) .sets)
@@ -226,3 +239,34 @@ module _ (f : ℕ → ℕ → ℕ) (close : ℕ → ℕ) (s : ℕ) where
 
     pub in-full : m ≡ n → n ≡ mostSets → mostSets < length ((all f s) .sets)
     in-full e q = full f s (symbolCount * k + a) R S n (w .at) k a refl ha (w .more) (close (getD row a 0)) m (w .here a ha) em e q
+
+  -- a symbol without a step leads back to the first set, whose number, 0, stands in the row already
+  module _ (first : close 0 ≡ s) (k : ℕ) (row R S : List ℕ) (n last number : ℕ) where
+    back-number : (j : ℕ) → At f s j R S n → 0 ≡ idx (take n S) (close 0)
+    unfolding run
+    back-number j at =
+        let g = grows f s 0 j in
+        sym (ap₂ idx (in-hand f s j R S n at ∙ ap (λ (i : ℕ). (run f s i) .sets) (sym (zero-add j)) ∙ g .1) first ∙ idx-same s (g .0) s refl)
+
+    in-none : (a : ℕ) → In k a row R S n last number → a < symbolCount → getD row a 0 ≡ 0 → In k (a + 1) row R S n last number
+    in-none a w h e =
+        let m : 0 ≡ idx (take n S) (close (getD row a 0)) = back-number (symbolCount * k + a) (w .at) ∙ ap (λ (x : ℕ). idx (take n S) (close x)) (sym e) in
+        let x = in-old k a row R S n last number w h 0 m S n (λ z. omega (arith, w .more)) refl refl in
+        record {
+          at = subst (λ (r : List ℕ). At f s (symbolCount * k + (a + 1)) r S n) (kept f s (symbolCount * k + a) R S n (w .at)) (x .at);
+          more = w .more;
+          below = x .below;
+          here = w .here;
+          known = w .known;
+        }
+
+    in-nones : (d a : ℕ) → a + d ≡ symbolCount → In k a row R S n last number → ((i : ℕ) → a ≤ i → i < symbolCount → getD row i 0 ≡ 0)
+        → In k symbolCount row R S n last number
+    in-nones zero a e w h = subst (λ (i : ℕ). In k i row R S n last number) (omega arith) w
+    in-nones (suc d) a e w h = in-nones d (a + 1) (omega arith) (in-none a w (omega arith) (h a (omega arith) (omega arith))) (λ i g l. h i (omega arith) l)
+
+    -- so the row is whole where the steps end
+    pub in-rest : (a end : ℕ) → In k a row R S n last number → NoStepFrom row end → end ≤ a → Before (k + 1) R S n last number
+    in-rest a end w o h =
+        in-last k symbolCount row R S n last number
+        (in-nones (symbolCount - a) a (omega (arith, w .below)) w (λ i g l. o .none i (omega arith) l)) (omega arith)

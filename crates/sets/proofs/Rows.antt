@@ -1,6 +1,6 @@
 -- The steps of a set on all symbols in one row: an arc's bit is spread over its symbols, each arc record read adds its hop, and the records of a rule
 -- are read once for all its states in the set. Assumes nothing.
-use Prim.Native.Nat.{ℕ, _+_, _^_, _≤_, _<_}
+use Prim.Native.Nat.{ℕ, _+_, _-_, _^_, _≤_, _<_}
 use mathlib.Core.Path.{_≡_, refl, ap, ap₂, sym, subst, _∙_}
 use mathlib.Core.Logic.{_≢_, _⊎_}
 use mathlib.Core.Bool.{Bool, true, false, cond, _&&_}
@@ -22,7 +22,7 @@ use Rattle.book.specs.StateSets.{member}
 use Rattle.book.proofs.Bits.{or-assoc, without}
 use Rattle.book.proofs.Pad.{zeros}
 use Rattle.sets.specs.Stepping.{hopFold, isEnd, stepArcs, arcBytes, SweptAll, ArcStands, between, Added, SweptRow}
-use Rattle.sets.specs.Stepping.{Stepped, Blank, gather, sideArcs, closeBy}
+use Rattle.sets.specs.Stepping.{Stepped, Blank, NoStepFrom, gather, sideArcs, closeBy}
 use Rattle.sets.specs.Sides.{sideFirst, sideStep}
 use Rattle.sets.proofs.Ends.{end-is, end-byte, end-small, turned-bytes}
 use Rattle.sets.proofs.Sweep.{Sweeping, Stepping, sweep-start, sweep-ends, sweep-arc, sweep-turn-arc, sweep-turn-state, sweep-end, sweep-none}
@@ -257,3 +257,11 @@ module _ (b : Book) (o : Sound b) (masks : List ℕ) (m : Masked (b .states) mas
   pub close-row : (back : Bool) (x : ℕ) (row : List ℕ) → Stepped (sideArcs back (b .arcs) x) row → (a : ℕ) → a < symbolCount
       → closeBy masks back (getD row a 0) ≡ sideStep b back x a
   close-row back x row w a h = ap (closeBy masks back) (w .each a h) ∙ close-step back x a
+
+-- the steps of a row end one symbol earlier, where that one has none
+pub steps-less : (row : List ℕ) (n : ℕ) → NoStepFrom row n → (n ≡ 0 → ⊥) → getD row (n - 1) 0 ≡ 0 → NoStepFrom row (n - 1)
+steps-less row n o h e = record { few = omega (arith, o .few); none = λ a g l. by a g l (decLt a n) }
+  where
+    by : (a : ℕ) → n - 1 ≤ a → a < symbolCount → Dec (a < n) → getD row a 0 ≡ 0
+    by a g l (yes p) = let q : a ≡ n - 1 = omega arith in ap (λ (i : ℕ). getD row i 0) q ∙ e
+    by a g l (no p) = o .none a (omega arith) l

@@ -1,6 +1,6 @@
 -- How the code steps a set: arc by arc, each arc read in either direction, and rule by rule for what the rules' masks give.
 -- These serve the contracts of the inner functions; `Sets` says what the sets are.
-use Prim.Native.Nat.{ℕ, zero, suc, _+_, _^_, _≤_, _<_}
+use Prim.Native.Nat.{ℕ, zero, suc, _+_, _-_, _^_, _≤_, _<_}
 use mathlib.Core.Path.{_≡_}
 use mathlib.Core.List.{List, [], _∷_, map}
 use mathlib.Core.Bool.{Bool, true, cond, _&&_, _||_}
@@ -85,6 +85,16 @@ pub record Stepped (step : ℕ → ℕ) (row : List ℕ) : Type 0 where
 -- the row is all 0
 abbrev pub Blank : List ℕ → Type 0
 Blank = Stepped (λ a. 0)
+
+-- from symbol n on the row has no step
+pub record NoStepFrom (row : List ℕ) (n : ℕ) : Type 0 where
+  pub few : n ≤ symbolCount
+  pub none : (a : ℕ) → n ≤ a → a < symbolCount → getD row a 0 ≡ 0
+
+-- and the symbol before has one
+pub record StepsEnd (row : List ℕ) (n : ℕ) : Type 0 where
+  pub after : NoStepFrom row n
+  pub last : 0 < n → getD row (n - 1) 0 ≡ 0 → ⊥
 
 -- what a rule gives to a set that meets its test, and what the first n rules give
 abbrev pub joins : ℕ → ℕ → ℕ → ℕ

@@ -5,7 +5,7 @@ ghost use Prim.Native.Nat.{_≤_};
 ghost use lib.ListN.{length, take};
 ghost use Rattle.book.specs.Reading.{checkDef, bookOf};
 ghost use Rattle.book.specs.Outline.{Placed, Masked};
-ghost use Rattle.sets.specs.Stepping.{closeBy};
+ghost use Rattle.sets.specs.Stepping.{closeBy, StepsEnd};
 ghost use Rattle.sets.specs.Numbering.{idx};
 ghost use Rattle.sets.specs.Sides.{sideTable, Clear, Numbered};
 
@@ -47,6 +47,22 @@ fn number_of(
     find(sets, count, set)
 }
 
+// Where the row's steps end: no symbol from there on has one. Such a symbol leads back to set 0, and its number stands in rows that are all 0.
+fn steps_end(row: &[u64; super::ROW]) -> u8
+    ensures { λ r. ⌜ StepsEnd (now (row .entry)) r ⌝ }
+{
+    let mut end = book::SYMBOLS;
+    loop {
+        if end == 0 {
+            break 0;
+        }
+        if row[(end - 1) as usize] != 0 {
+            break end;
+        }
+        end -= 1;
+    }
+}
+
 // All pairs of a numbered set and a symbol, into rows and sets that are all 0. The count; or one more than the most, at the first set that
 // would pass it.
 pub(crate) fn number_sets(
@@ -74,8 +90,9 @@ pub(crate) fn number_sets(
         }
         let mut row = [0u64; super::ROW];
         super::stepping::side_row(book, places, back, sets[k], &mut row);
+        let end = steps_end(&row);
         let mut symbol: u8 = 0;
-        while symbol < book::SYMBOLS {
+        while symbol < end {
             let step = row[symbol as usize];
             number = number_of(masks, back, sets, count, last, number, step);
             last = step;

@@ -14,18 +14,18 @@ use Rattle.sets.specs.Numbering.{mostSets}
 use Rattle.sets.specs.Sides.{sideFirst, sideStep, sideTable}
 use Rattle.sets.proofs.Rows.{blank, close-first, close-row}
 use Rattle.sets.proofs.At.{Before, In, clear-rows, clear-sets, before-first, whole, too-many}
-use Rattle.sets.proofs.At.{in-first, in-last, in-new, in-old, in-full, new-small, old-small}
+use Rattle.sets.proofs.At.{in-first, in-rest, in-new, in-old, in-full, new-small, old-small}
 use borrow.Author.Needs.{needs}
 use Rattle.sets.proofs.numbering.number_sets.Statement.{statement}
 use Rattle.sets.proofs.numbering.number_sets.Tie as tie
 
 abbrev Inv-loop : tie.InvT-loop
-Inv-loop book places masks back rows₀ sets₀ count₀ k last₀ number₀ row symbol₀ rows sets count last number symbol =
+Inv-loop book places masks back rows₀ sets₀ count₀ k last₀ number₀ row end symbol₀ rows sets count last number symbol =
     In (sideStep (bookOf book) back) (closeBy masks back) (sideFirst (bookOf book) back)
     k symbol row rows sets count last number
 
 abbrev μ-loop : tie.MeasureT-loop
-μ-loop book places masks back rows₀ sets₀ count₀ k last₀ number₀ row symbol₀ rows sets count last number symbol =
+μ-loop book places masks back rows₀ sets₀ count₀ k last₀ number₀ row end symbol₀ rows sets count last number symbol =
     symbolCount - symbol
 
 abbrev Inv-all : tie.InvT-all
@@ -58,11 +58,14 @@ slice-read-side-row c = omega arith
 side-row-requires : tie.Need-side-row-requires Inv-loop μ-loop Inv-all μ-all
 side-row-requires c κs = let p = c .before .before .before .before .before .before .before .before .pre in (p .0, (p .1 .0, blank))
 
+steps-end-requires : tie.Need-steps-end-requires Inv-loop μ-loop Inv-all μ-all
+steps-end-requires c κs = search needs
+
 loop-holds : tie.Need-loop-holds Inv-loop μ-loop Inv-all μ-all
 loop-holds c =
-    let p = c .before .before .before .before .before .before .before .before .before .pre in
-    in-first _ _ _ _ _ _ _ _ _ _ (c .before .before .before .before .all .inv) (c .before .before .before .if1 .left)
-    (close-row _ (accepted-sound _ _ (is-accepted _ (p .0))) _ (p .1 .1 .0) _ _ _ (c .side-row .ensures))
+    let p = c .before .before .before .before .before .before .before .before .before .before .before .pre in
+    in-first _ _ _ _ _ _ _ _ _ _ (c .before .before .before .before .before .before .all .inv) (c .before .before .before .before .before .if1 .left)
+    (close-row _ (accepted-sound _ _ (is-accepted _ (p .0))) _ (p .1 .1 .0) _ _ _ (c .before .before .side-row .ensures))
 
 cast-step : tie.Need-cast-step Inv-loop μ-loop Inv-all μ-all
 cast-step c = omega arith
@@ -94,11 +97,11 @@ add-count c = omega arith
 cast-rows : tie.Need-cast-rows Inv-loop μ-loop Inv-all μ-all
 cast-rows c =
     let l = c .before .before .before .before .loop in
-    let t = c .before .before .before .loop-test in
+    let t : l .symbol < symbolCount = omega (arith, c .before .before .before .loop-test .taken, c .before .before .before .before .before .steps-end .ensures .after .few) in
     let m = c .before .number-of in
     let small : m .result < mostSets = ⊎-elim
-    (λ w. new-small _ _ _ _ _ _ _ _ _ _ _ (l .inv) (t .taken) (m .result) (m .ensures) (w .0 .taken) (w .1 .left))
-    (λ w. old-small _ _ _ _ _ _ _ _ _ _ _ (l .inv) (t .taken) (m .result) (m .ensures) (w .0 .left))
+    (λ w. new-small _ _ _ _ _ _ _ _ _ _ _ (l .inv) t (m .result) (m .ensures) (w .0 .taken) (w .1 .left))
+    (λ w. old-small _ _ _ _ _ _ _ _ _ _ _ (l .inv) t (m .result) (m .ensures) (w .0 .left))
     (c .if2 .came)
     in
     omega arith
@@ -124,11 +127,11 @@ loop-less c = omega arith
 loop-again : tie.Need-loop-again Inv-loop μ-loop Inv-all μ-all
 loop-again c =
     let l = c .before .before .before .before .loop in
-    let t = c .before .before .before .loop-test in
+    let t : l .symbol < symbolCount = omega (arith, c .before .before .before .loop-test .taken, c .before .before .before .before .before .steps-end .ensures .after .few) in
     let m = c .before .number-of in
     ⊎-elim
-    (λ w. in-new _ _ _ _ _ _ _ _ _ _ _ (l .inv) (t .taken) (m .result) (m .ensures) _ (w .2 .ensures) _ _ (w .0 .taken) (w .1 .left) (w .3) (w .4))
-    (λ w. in-old _ _ _ _ _ _ _ _ _ _ _ (l .inv) (t .taken) (m .result) (m .ensures) _ _ (w .0 .left) (w .1) (w .2))
+    (λ w. in-new _ _ _ _ _ _ _ _ _ _ _ (l .inv) t (m .result) (m .ensures) _ (w .2 .ensures) _ _ (w .0 .taken) (w .1 .left) (w .3) (w .4))
+    (λ w. in-old _ _ _ _ _ _ _ _ _ _ _ (l .inv) t (m .result) (m .ensures) _ _ (w .0 .left) (w .1) (w .2))
     (c .if2 .came)
 
 add-k : tie.Need-add-k Inv-loop μ-loop Inv-all μ-all
@@ -138,7 +141,10 @@ all-less : tie.Need-all-less Inv-loop μ-loop Inv-all μ-all
 all-less c = omega arith
 
 all-again : tie.Need-all-again Inv-loop μ-loop Inv-all μ-all
-all-again c = in-last _ _ _ _ _ _ _ _ _ _ _ (c .before .loop .inv) (c .loop-test .left)
+all-again c =
+    let p = c .before .before .before .before .before .before .before .before .before .before .before .before .before .pre in
+    in-rest _ _ _ (close-first _ (accepted-sound _ _ (is-accepted _ (p .0))) _ (p .1 .1 .0) _) _ _ _ _ _ _ _ _ _
+    (c .before .loop .inv) (c .before .before .steps-end .ensures .after) (c .loop-test .left)
 
 same-length : tie.Need-same-length Inv-loop μ-loop Inv-all μ-all
 same-length c = omega (arith, clear-rows _ _ (c .before .before .before .before .before .before .pre .1 .1 .1))
@@ -152,21 +158,21 @@ returns c = whole _ _ _ _ _ _ (c .before .all .inv .at) (c .if1 .taken)
 
 same-length-3 : tie.Need-same-length-3 Inv-loop μ-loop Inv-all μ-all
 same-length-3 c =
-    let p = c .before .before .before .before .before .before .before .before .before .before .before .before .before .before .before .pre in
+    let p = c .before .before .before .before .before .before .before .before .before .before .before .before .before .before .before .before .before .pre in
     omega (arith, clear-rows _ _ (p .1 .1 .1))
 
 same-length-4 : tie.Need-same-length-4 Inv-loop μ-loop Inv-all μ-all
 same-length-4 c =
-    let p = c .before .before .before .before .before .before .before .before .before .before .before .before .before .before .before .pre in
+    let p = c .before .before .before .before .before .before .before .before .before .before .before .before .before .before .before .before .before .pre in
     omega (arith, clear-sets _ _ (p .1 .1 .1))
 
 returns-2 : tie.Need-returns-2 Inv-loop μ-loop Inv-all μ-all
 unfolding sideTable
 returns-2 c =
     let l = c .before .before .before .before .before .loop in
-    let t = c .before .before .before .before .loop-test in
+    let t : l .symbol < symbolCount = omega (arith, c .before .before .before .before .loop-test .taken, c .before .before .before .before .before .before .steps-end .ensures .after .few) in
     let m = c .before .before .number-of in
-    too-many _ _ _ _ (in-full _ _ _ _ _ _ _ _ _ _ _ (l .inv) (t .taken) (m .result) (m .ensures) (c .before .if2 .taken) (c .if3 .taken))
+    too-many _ _ _ _ (in-full _ _ _ _ _ _ _ _ _ _ _ (l .inv) t (m .result) (m .ensures) (c .before .if2 .taken) (c .if3 .taken))
 
 pub number-sets-spec : {M : Type 1} → statement M
 number-sets-spec =
@@ -182,6 +188,7 @@ number-sets-spec =
     mul-side-row
     slice-read-side-row
     side-row-requires
+    steps-end-requires
     loop-holds
     cast-step
     mul-step
