@@ -2,16 +2,15 @@
 -- above; as the same book. Assumes nothing.
 use Prim.Native.Nat.{ℕ, zero, suc, _+_, _≤_, _<_}
 use mathlib.Core.Path.{_≡_, refl, sym, ap, ap₂, _∙_}
-use mathlib.Core.Logic.{_↔_}
 use mathlib.Core.List.{List, [], _∷_, _++_}
 use mathlib.Core.Bool.{Bool, true, false, not, cond, _&&_, _||_, and-false, false≢true}
 use native.Mathlib.Omega.{arith}
 use lib.Dec.{leb, ltb, eqb}
 use lib.ListN.{length, getD}
-use borrow.Author.Tests.{lt-leb, leb-false, le-leb, eqb-true, eqb-false, eq-eqb, ne-eqb, le-ltb}
+use borrow.Author.Tests.{lt-leb, leb-false, eqb-true, eqb-false, ne-eqb, le-ltb}
 use Rattle.book.specs.Format.{symbolCount, mostRules, mostArcs, longestWord, endKind, endSize, lengthAt, symbolsAt, fromAt, lowAt, highAt, toAt}
 use Rattle.book.specs.Format.{byte, recordSize, symbolsFit, ruleReply, arcReply, kindReply, recordReply}
-use Rattle.book.specs.Reading.{Arc, Book, empty, scanOf, wordAt, stateAt, arcAt, withRule, withState, withArc, withRecord}
+use Rattle.book.specs.Reading.{Arc, Book, empty, scanOf, wordAt, arcAt, withRecord}
 use Rattle.book.specs.Reading.{Read, refused, accepted, ended, readFrom, readBook, answer, checkDef, bookIn, bookOf}
 use Rattle.book.specs.Language.{any}
 use Rattle.book.specs.Before.{high, highBook, onNoArc, replyBelow, readBelow, readAllBelow, checkBelow, bookBelow}
@@ -44,15 +43,9 @@ test-not true r rest v n e = absurd (n e)
 test-not false r rest v n e = (refl, e)
 
 -- a word whose symbols are all below n has none above
-pub low-word : (n : ℕ) (w : List ℕ) → ((i : ℕ) → i < length w → getD w i 0 < n) → high n w ≡ false
+low-word : (n : ℕ) (w : List ℕ) → ((i : ℕ) → i < length w → getD w i 0 < n) → high n w ≡ false
 low-word n [] f = refl
 low-word n (x ∷ w) f = ap₂ _||_ (lt-leb n x (f 0 (omega arith))) (low-word n w (λ i h. f (suc i) (omega arith)))
-
--- and back
-pub word-low : (n : ℕ) (w : List ℕ) → high n w ≡ false → (i : ℕ) → i < length w → getD w i 0 < n
-word-low n [] e i h = absurd (omega arith)
-word-low n (x ∷ w) e zero h = leb-false n x (or-none (leb n x) (high n w) e .0)
-word-low n (x ∷ w) e (suc i) h = word-low n w (or-none (leb n x) (high n w) e .1) i (omega arith)
 
 -- in a book without a symbol above no arc is open to one
 pub no-arc : (n : ℕ) (b : Book) (a : ℕ) → highBook n b ≡ false → n ≤ a → onNoArc b a ≡ true
@@ -111,7 +104,8 @@ module _ (n : ℕ) (s : List ℕ) (at : ℕ) where
   unfolding replyBelow
   reply-zero g e = by (highBook n (withRecord s at empty)) refl e
     where
-      by : (c : Bool) → highBook n (withRecord s at empty) ≡ c → cond (c && (eqb (recordReply s at g) 0 || eqb (recordReply s at g) 6)) 5 (recordReply s at g) ≡ 0
+      by : (c : Bool) → highBook n (withRecord s at empty) ≡ c
+          → cond (c && (eqb (recordReply s at g) 0 || eqb (recordReply s at g) 6)) 5 (recordReply s at g) ≡ 0
           → (recordReply s at g ≡ 0) × (highBook n (withRecord s at empty) ≡ false)
       by false q z = (z, q)
       by true q z =
@@ -135,17 +129,20 @@ module _ (n : ℕ) (s : List ℕ) (at : ℕ) where
 -- ---- all records
 module _ (n : ℕ) (s : List ℕ) where
   -- what the n symbols accept is accepted, and has no symbol above
-  pub below-read : (k at : ℕ) (b B : Book) → readBelow n k s at b ≡ accepted B → highBook n b ≡ false → (readFrom k s at b ≡ accepted B) × (highBook n B ≡ false)
+  below-read : (k at : ℕ) (b B : Book) → readBelow n k s at b ≡ accepted B → highBook n b ≡ false
+      → (readFrom k s at b ≡ accepted B) × (highBook n B ≡ false)
   unfolding readBelow
   below-read zero at b B h f = absurd (never _ _ _ h)
-  below-read (suc k) at b B h f = by (replyBelow n s at (scanOf b)) (eqb (byte s at) endKind) refl refl (below-read k (at + recordSize (byte s at)) (withRecord s at b) B)
+  below-read (suc k) at b B h f =
+      by (replyBelow n s at (scanOf b)) (eqb (byte s at) endKind) refl refl (below-read k (at + recordSize (byte s at)) (withRecord s at b) B)
     where
       After : Type 0
       After =
           readBelow n k s (at + recordSize (byte s at)) (withRecord s at b) ≡ accepted B → highBook n (withRecord s at b) ≡ false
           → (readFrom k s (at + recordSize (byte s at)) (withRecord s at b) ≡ accepted B) × (highBook n B ≡ false)
 
-      by : (r : ℕ) (t : Bool) → replyBelow n s at (scanOf b) ≡ r → eqb (byte s at) endKind ≡ t → After → (readFrom (suc k) s at b ≡ accepted B) × (highBook n B ≡ false)
+      by : (r : ℕ) (t : Bool) → replyBelow n s at (scanOf b) ≡ r → eqb (byte s at) endKind ≡ t → After
+          → (readFrom (suc k) s at b ≡ accepted B) × (highBook n B ≡ false)
       by (suc r) t e q ih = absurd (never _ _ _ (sym (below-refused n s at k b r e) ∙ h))
       by zero true e q ih =
           let z = reply-zero n s at (scanOf b) e in
@@ -158,7 +155,8 @@ module _ (n : ℕ) (s : List ℕ) where
           (read-more k s at b (z .0) (eqb-false _ _ q) ∙ i .0, i .1)
 
   -- and what is accepted and has none is accepted by the n symbols
-  pub read-below : (k at : ℕ) (b B : Book) → readFrom k s at b ≡ accepted B → highBook n B ≡ false → (readBelow n k s at b ≡ accepted B) × (highBook n b ≡ false)
+  read-below : (k at : ℕ) (b B : Book) → readFrom k s at b ≡ accepted B → highBook n B ≡ false
+      → (readBelow n k s at b ≡ accepted B) × (highBook n b ≡ false)
   unfolding readFrom
   read-below zero at b B h f = absurd (never _ _ _ h)
   read-below (suc k) at b B h f = by (next k s at b B h) (λ h′. read-below k (at + recordSize (byte s at)) (withRecord s at b) B h′ f)
@@ -235,7 +233,8 @@ module _ (s : List ℕ) (at : ℕ) (g : Scan) where
       low-word symbolCount (wordAt s at) (word-fits s at (g .rules) (e ∙ sym (c .1)) .1 .symbols)
 
   of-arc : (v : ℕ) → (4 ≡ v → ⊥) → (3 ≡ v → ⊥) → (5 ≡ v → ⊥)
-      → arcReply (byte s (at + fromAt)) (byte s (at + lowAt)) (byte s (at + highAt)) (byte s (at + toAt)) g ≡ v → leb symbolCount (byte s (at + highAt)) ≡ false
+      → arcReply (byte s (at + fromAt)) (byte s (at + lowAt)) (byte s (at + highAt)) (byte s (at + toAt)) g ≡ v
+      → leb symbolCount (byte s (at + highAt)) ≡ false
   unfolding arcReply
   of-arc v n₄ n₃ n₅ e =
       let a = test-not (eqb (g .rules) 0) 4 _ v n₄ e in
@@ -260,7 +259,8 @@ module _ (s : List ℕ) (at : ℕ) (g : Scan) where
   reply-now = by (eqb (recordReply s at g) 0) (eqb (recordReply s at g) 6) refl refl
     where
       by : (x y : Bool) → eqb (recordReply s at g) 0 ≡ x → eqb (recordReply s at g) 6 ≡ y
-          → cond (highBook symbolCount (withRecord s at empty) && (eqb (recordReply s at g) 0 || eqb (recordReply s at g) 6)) 5 (recordReply s at g) ≡ recordReply s at g
+          → cond (highBook symbolCount (withRecord s at empty) && (eqb (recordReply s at g) 0 || eqb (recordReply s at g) 6)) 5 (recordReply s at g)
+          ≡ recordReply s at g
       by true y p q = reply-same symbolCount s at g (of-record 0 (λ r h k z. omega arith) (eqb-true _ _ p))
       by false true p q = reply-same symbolCount s at g (of-record 6 (λ r h k z. omega arith) (eqb-true _ _ q))
       by false false p q = rw (p, q) (ap (λ (c : Bool). cond c 5 (recordReply s at g)) (and-false (highBook symbolCount (withRecord s at empty))))
@@ -269,7 +269,8 @@ module _ (s : List ℕ) where
   read-now : (k at : ℕ) (b : Book) → readBelow symbolCount k s at b ≡ readFrom k s at b
   unfolding readBelow readFrom
   read-now zero at b = refl
-  read-now (suc k) at b = by (recordReply s at (scanOf b)) (eqb (byte s at) endKind) refl refl (read-now k (at + recordSize (byte s at)) (withRecord s at b))
+  read-now (suc k) at b =
+      by (recordReply s at (scanOf b)) (eqb (byte s at) endKind) refl refl (read-now k (at + recordSize (byte s at)) (withRecord s at b))
     where
       now : replyBelow symbolCount s at (scanOf b) ≡ recordReply s at (scanOf b)
       now = reply-now s at (scanOf b)
@@ -278,7 +279,8 @@ module _ (s : List ℕ) where
       After =
           readBelow symbolCount k s (at + recordSize (byte s at)) (withRecord s at b) ≡ readFrom k s (at + recordSize (byte s at)) (withRecord s at b)
 
-      by : (r : ℕ) (t : Bool) → recordReply s at (scanOf b) ≡ r → eqb (byte s at) endKind ≡ t → After → readBelow symbolCount (suc k) s at b ≡ readFrom (suc k) s at b
+      by : (r : ℕ) (t : Bool) → recordReply s at (scanOf b) ≡ r → eqb (byte s at) endKind ≡ t → After
+          → readBelow symbolCount (suc k) s at b ≡ readFrom (suc k) s at b
       by (suc r) t e q ih = below-refused symbolCount s at k b r (now ∙ e) ∙ sym (read-refused k s at b (suc r) e (λ z. omega arith))
       by zero true e q ih = below-end symbolCount s at k b (now ∙ e) (eqb-true _ _ q) ∙ sym (read-end k s at b e (eqb-true _ _ q))
       by zero false e q ih =

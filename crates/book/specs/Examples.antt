@@ -43,7 +43,10 @@ rows =
     record { book = rule ++ end; answer = record { reply = 0; place = 0; rules = 1; states = 0; arcs = 0 } } ∷
     record { book = rule ++ (state 1 3 ++ end); answer = record { reply = 0; place = 0; rules = 1; states = 1; arcs = 0 } } ∷
     -- the last symbol in a word and on an arc
-    record { book = set rule 2 last ++ (state 1 3 ++ (arc 0 last last 0 ++ end)); answer = record { reply = 0; place = 0; rules = 1; states = 1; arcs = 1 } } ∷
+    record {
+      book = set rule 2 last ++ (state 1 3 ++ (arc 0 last last 0 ++ end));
+      answer = record { reply = 0; place = 0; rules = 1; states = 1; arcs = 1 };
+    } ∷
     -- 1: no kind byte; inside a body; a cut body comes before 4
     refusal [] 1 0 ∷
     refusal (take 147 house) 1 147 ∷
@@ -101,6 +104,6 @@ olderRows =
     []
 
 pub older-answers : map (λ (x : Row). checkBelow 16 (bookOfRow x)) olderRows ≡ map answerOfRow olderRows
-unfolding house recordSize symbolFits symbolsFit ruleReply stateReply given arcReply endReply kindReply recordReply withRecord highBook replyBelow readBelow readAllBelow
-    checkBelow
+unfolding house recordSize symbolFits symbolsFit ruleReply stateReply given arcReply endReply kindReply recordReply withRecord
+    highBook replyBelow readBelow readAllBelow checkBelow
 older-answers = refl

@@ -274,7 +274,15 @@ module _ (s t rows sets scratch out origins : List ℕ) where
       → getD clock (getD (after .origins) j 0) 0 ≤ getD clock (getD (after .origins) k 0) 0
   printed-never-fall = TimesAfter.times-print s t rows sets scratch out origins
 
--- 8. Document 02, No. 6: "Accounts and outputs of old books on old tapes do not change where the book still builds." An old tape has the first n symbols
+-- 8. Of a book nothing is asked but its words and which stretches of the tape are candidates of which rule.
+module _ (b b′ : Rules) (t : List ℕ) (words : b .words ≡ b′ .words) (same : (i j r : ℕ) → candidate b t i j r ≡ candidate b′ t i j r) where
+  pub same-candidates-output : rewriting b t ≡ rewriting b′ t
+  same-candidates-output = Agreeing.rewriting-same b b′ t words same
+
+  pub same-candidates-account : account b t ≡ account b′ t
+  same-candidates-account = Agreeing.account-same b b′ t words same
+
+-- Document 02, No. 6: "Accounts and outputs of old books on old tapes do not change where the book still builds." An old tape has the first n symbols
 -- alone: whatever the rules, it is all one whether a language has words of other symbols too.
 module _ (n : ℕ) (b : Rules) (t : List ℕ) (low : high n t ≡ false) where
   pub old-tape-output : rewriting (rulesBelow n b) t ≡ rewriting b t
@@ -283,8 +291,9 @@ module _ (n : ℕ) (b : Rules) (t : List ℕ) (low : high n t ≡ false) where
   pub old-tape-account : account (rulesBelow n b) t ≡ account b t
   old-tape-account = Agreeing.account-below n b t low
 
--- An old book is one that CHECK accepts where there are the first n symbols alone. It is still accepted, with the same counts, as the same rules; on an old tape it
--- has the output and the account that it had; and BUILD answers of it what it did, with the same sets and numbers, in rows that agree on the first n entries.
+-- An old book is one that CHECK accepts where there are the first n symbols alone. It is still accepted, with the same counts, as the same rules; on an
+-- old tape it has the output and the account that it had; and BUILD answers of it what it did, with the same sets and numbers, in rows that agree on
+-- the first n entries.
 module _ (n : ℕ) (s : List ℕ) (old : checkBelow n s .reply ≡ 0) where
   pub old-accepted : checkDef s ≡ checkBelow n s
   old-accepted = BookBefore.old-check n s old

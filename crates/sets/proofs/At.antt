@@ -177,7 +177,7 @@ module _ (f : ℕ → ℕ → ℕ) (close : ℕ → ℕ) (s : ℕ) where
       → ((i : ℕ) → i < symbolCount → close (getD row i 0) ≡ f (getD S k 0) i) → In k 0 row R S n last number
   in-first k row R S n last number b ne h = record { at = rw add-zero (b .at); more = omega (arith, b); below = zero-le; here = h; known = b .known }
 
-  pub in-last : (k a : ℕ) (row R S : List ℕ) (n last number : ℕ) → In k a row R S n last number → symbolCount ≤ a → Before (k + 1) R S n last number
+  in-last : (k a : ℕ) (row R S : List ℕ) (n last number : ℕ) → In k a row R S n last number → symbolCount ≤ a → Before (k + 1) R S n last number
   in-last k a row R S n last number w h =
       let b = w .below in
       let e : symbolCount * k + a ≡ symbolCount * (k + 1) = omega arith in

@@ -18,9 +18,8 @@ use Rattle.book.specs.declared.Checked.{Checked}
 use Rattle.book.specs.Before.{onNoArc, checkBelow}
 use Rattle.book.proofs.Before.{or-none, no-arc, old-book, old-check, old-low, check-now, book-now}
 use Rattle.sets.specs.Sets.{setOf, intoBy, backBy, leftFirst, leftNext, closed, rightLast, rightPrev}
-use Rattle.sets.specs.Numbering.{mostSets, pairs, Table, run, all, pad}
-use Rattle.sets.specs.Workspace.{rowBytes, setWords, leftTable, rightTable, AfterBuild, unchanged, cleared, filled, numbered, buildDef}
-use Rattle.sets.specs.Tables.{leftEntry, rightEntry}
+use Rattle.sets.specs.Numbering.{mostSets, pairs, Table, all, pad}
+use Rattle.sets.specs.Workspace.{rowBytes, setWords, leftTable, rightTable, unchanged, cleared, filled, numbered, buildDef}
 use Rattle.sets.specs.Before.{runBelow, pairsBelow, bytesBelow, leftBelow, rightBelow, clearedBelow, filledBelow, numberedBelow, buildBelow}
 use Rattle.sets.specs.Before.{SameRows, AsBefore}
 use Rattle.sets.proofs.Pad.{length-pad, getD-pad-all}
@@ -108,7 +107,8 @@ module _ (w : ℕ) (fits : w ≤ symbolCount) where
   cleared-rows : (T T′ : List ℕ) → SameRows w (pad (bytesBelow w) [] ++ T) (pad rowBytes [] ++ T′)
   cleared-rows T T′ =
       record {
-        left = λ k a h g. zero-at rowBytes T′ (symbolCount * k + a) (omega arith) ∙ sym (zero-at (bytesBelow w) T (k * w + a) (omega (arith, place k a h g)));
+        left = λ k a h g. zero-at rowBytes T′ (symbolCount * k + a) (omega arith)
+            ∙ sym (zero-at (bytesBelow w) T (k * w + a) (omega (arith, place k a h g)));
         right = λ k a h g. zero-at rowBytes T′ (pairs + k * symbolCount + a) (omega arith)
             ∙ sym (zero-at (bytesBelow w) T (pairsBelow w + (k * w + a)) (omega (arith, place k a h g)));
         left-new = λ k a h g l. zero-at rowBytes T′ (symbolCount * k + a) (omega arith);
@@ -116,7 +116,8 @@ module _ (w : ℕ) (fits : w ≤ symbolCount) where
       }
 
   module _ (s r : ℕ) (L L′ R R′ : Table) (o : Same s w (symbolCount - w) mostSets L L′) (p : Same r w (symbolCount - w) mostSets R R′) where
-    filled-rows : (T T′ : List ℕ) → SameRows w (pad (pairsBelow w) (L .rows) ++ (pad (pairsBelow w) (R .rows) ++ T)) (pad pairs (L′ .rows) ++ (pad pairs (R′ .rows) ++ T′))
+    filled-rows : (T T′ : List ℕ)
+        → SameRows w (pad (pairsBelow w) (L .rows) ++ (pad (pairsBelow w) (R .rows) ++ T)) (pad pairs (L′ .rows) ++ (pad pairs (R′ .rows) ++ T′))
     filled-rows T T′ =
         let l = fits-old s L L′ o in let l′ = fits-now s L L′ o in
         let m = fits-old r R R′ p in let m′ = fits-now r R R′ p in
@@ -183,4 +184,6 @@ module _ (w : ℕ) (fits : w ≤ symbolCount) (book R R₀ S : List ℕ) (z : ch
       (numbered-before w fits _ _ _ _ _ _ left-side right-side R₀ R S)
     where
       old : buildBelow w book R₀ S ≡ numberedBelow w (leftBelow w (bookOf book)) (rightBelow w (bookOf book)) R₀ S
-      old = simp (eq-eqb _ _ z, le-ltb _ _ g, le-ltb _ _ l) (ap (λ (b : Book). numberedBelow w (leftBelow w b) (rightBelow w b) R₀ S) (sym (old-book w book z)))
+      old =
+          simp (eq-eqb _ _ z, le-ltb _ _ g, le-ltb _ _ l)
+          (ap (λ (b : Book). numberedBelow w (leftBelow w b) (rightBelow w b) R₀ S) (sym (old-book w book z)))

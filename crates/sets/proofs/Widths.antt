@@ -1,17 +1,17 @@
 -- The numbering with rows of w entries: pair by pair and row by row; and with w + d entries where each further symbol leads back to the first set: the
 -- same sets with the same numbers, and rows that agree on the first w entries and are 0 on the others. Assumes nothing.
-use Prim.Native.Nat.{ℕ, zero, suc, _+_, _*_, _/_, _%_, _≤_, _<_, zero-le, suc-le-suc}
+use Prim.Native.Nat.{ℕ, zero, suc, _+_, _*_, _≤_, _<_, zero-le, suc-le-suc}
 use mathlib.Core.Path.{_≡_, refl, sym, ap, ap₂, _∙_, subst, subst₂}
-use mathlib.Core.Bool.{Bool, true, false}
+use mathlib.Core.Bool.{true, false}
 use mathlib.Core.List.{List, [], _∷_, _++_, append-nil, append-assoc}
 use native.Mathlib.Omega.{arith}
 use native.Mathlib.Nat.{mul-comm, add-suc, add-zero, suc-mul, zero-mul, le-trans, mul-le-mul-right}
 use native.Mathlib.Decide.{decLt, ℕ-discrete}
 use lib.Arith.{digits-lt, digits-div, digits-mod}
-use lib.Dec.{ltb, eqb}
+use lib.Dec.{ltb}
 use lib.ListN.{length, getD, replicate, length-append, length-replicate, getD-replicate, List·getD-append, List·getD-eq-default}
 use lib.Seq.{getD-append-add}
-use borrow.Author.Tests.{lt-ltb, le-ltb, eq-eqb, ne-eqb}
+use borrow.Author.Tests.{lt-ltb, le-ltb}
 use Rattle.book.specs.Format.{symbolCount}
 use Rattle.sets.specs.Numbering.{idx, Table, enter, met, next, turn, run}
 use Rattle.sets.specs.Before.{nextBelow, turnBelow, runBelow}
@@ -91,7 +91,8 @@ numbers f k zero S = []
 numbers f k (suc a) S = numbers f k a S ++ (idx (grown f k a S) (f (getD (grown f k a S) k 0) a) ∷ [])
 
 -- x is met: the sets do not depend on the rows
-met-sets : (x : ℕ) (S R : List ℕ) → met x (record { sets = S; rows = R }) ≡ record { sets = met x (record { sets = S; rows = [] }) .sets; rows = R ++ (idx S x ∷ []) }
+met-sets : (x : ℕ) (S R : List ℕ)
+    → met x (record { sets = S; rows = R }) ≡ record { sets = met x (record { sets = S; rows = [] }) .sets; rows = R ++ (idx S x ∷ []) }
 unfolding met enter
 met-sets x S R = refl
 
@@ -196,10 +197,10 @@ pub record Same (s w d K : ℕ) (t t′ : Table) : Type 0 where
   headed : Headed s (t .sets)
   pub sets : t′ .sets ≡ t .sets
   -- the rows there are
-  pub count : ℕ
-  pub few : count ≤ K
-  pub long : length (t .rows) ≡ count * w
-  pub long′ : length (t′ .rows) ≡ count * (w + d)
+  count : ℕ
+  few : count ≤ K
+  long : length (t .rows) ≡ count * w
+  long′ : length (t′ .rows) ≡ count * (w + d)
   agree : (k a : ℕ) → k < count → a < w → getD (t′ .rows) (k * (w + d) + a) 0 ≡ getD (t .rows) (k * w + a) 0
   zeros : (k a : ℕ) → k < count → a < d → getD (t′ .rows) (k * (w + d) + (w + a)) 0 ≡ 0
 
@@ -280,7 +281,8 @@ module _ (f : ℕ → ℕ → ℕ) (s w d : ℕ) (back : (x a : ℕ) → w ≤ a
       by (yes l) =
           let e = row-adds f K S (t .rows) l w in
           let e′ = ap (rowTurns f K (w + d)) now ∙ row-adds f K S (t′ .rows) l (w + d)
-          ∙ ap₂ (λ (x y : List ℕ). record { sets = x; rows = t′ .rows ++ y }) (grown-back s f K S (o .headed) w back d) (numbers-back s f K S (o .headed) w back d) in
+          ∙ ap₂ (λ (x y : List ℕ). record { sets = x; rows = t′ .rows ++ y })
+          (grown-back s f K S (o .headed) w back d) (numbers-back s f K S (o .headed) w back d) in
           subst₂ (Same s w d (suc K)) (sym e) (sym e′) (same-row K S (t .rows) (t′ .rows) o₁)
       by (no l) =
           let h : length S ≤ K = omega arith in

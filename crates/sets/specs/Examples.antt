@@ -49,7 +49,8 @@ house-built = refl
 pub house-before : shown 16 (buildBelow 16 house (replicate 8194 255) (replicate (setWords + 1) 255)) ≡ houseTable 16
 unfolding house recordSize symbolFits symbolsFit ruleReply stateReply given arcReply endReply kindReply recordReply
     withRecord highBook replyBelow readBelow readAllBelow checkBelow bookBelow flagged isStart member encode
-    setOf intoBy backBy leftFirst leftNext closed rightLast rightPrev idx enter met nextBelow turnBelow runBelow pad leftBelow rightBelow numberedBelow buildBelow
+    setOf intoBy backBy leftFirst leftNext closed rightLast rightPrev idx enter met pad
+    nextBelow turnBelow runBelow leftBelow rightBelow numberedBelow buildBelow
 house-before = refl
 
 pub house-short : buildDef house (replicate rowBytes 255) (replicate (setWords - 1) 255) .answer ≡ refusal 11 0

@@ -1,7 +1,7 @@
 -- Two books with the same words, whose rules say the same of every piece of the tape, rewrite it alike and give the same account: nothing else is asked of a
 -- book. So on a tape of the first n symbols it is all one whether the languages have words of other symbols. Assumes nothing.
-use Prim.Native.Nat.{ℕ, zero, suc, _-_, _<_}
-use mathlib.Core.Path.{_≡_, refl, sym, ap, ap₂, _∙_}
+use Prim.Native.Nat.{ℕ, zero, suc, _-_}
+use mathlib.Core.Path.{_≡_, refl, ap, ap₂, _∙_}
 use mathlib.Core.Bool.{Bool, true, false, cond, not, _&&_, _||_}
 use mathlib.Core.List.{List, [], _∷_, _++_}
 use lib.Dec.{ltb, leb}
@@ -10,9 +10,9 @@ use lib.Seq.{slice}
 use Rattle.book.specs.Language.{Rules, any, upFrom}
 use Rattle.book.specs.Before.{high}
 use Rattle.book.proofs.Before.{or-none}
-use Rattle.stretches.specs.Candidates.{candidate, someRule, lastOf, firstOf, longest, ruleOf, Stretch, fresh, cover, along, overTape, keep}
-use Rattle.stretches.specs.Output.{Mark, wordMarks, ruleWord, written, keptMarks, writtenAt, rewriting}
-use Rattle.stretches.specs.Account.{Line, judge, verdictBy, lineFor, each, linesAt, account}
+use Rattle.stretches.specs.Candidates.{candidate, someRule, lastOf, firstOf, longest, ruleOf, Stretch, fresh, cover, along, keep}
+use Rattle.stretches.specs.Output.{Mark, wordMarks, written, keptMarks, writtenAt, rewriting}
+use Rattle.stretches.specs.Account.{judge, verdictBy, lineFor, each, linesAt, account}
 use Rattle.stretches.specs.Before.{rulesBelow}
 
 module _ (b b′ : Rules) (t : List ℕ) (words : b .words ≡ b′ .words) (same : (i j r : ℕ) → candidate b t i j r ≡ candidate b′ t i j r) where

@@ -97,7 +97,8 @@ add-count c = omega arith
 cast-rows : tie.Need-cast-rows Inv-loop μ-loop Inv-all μ-all
 cast-rows c =
     let l = c .before .before .before .before .loop in
-    let t : l .symbol < symbolCount = omega (arith, c .before .before .before .loop-test .taken, c .before .before .before .before .before .steps-end .ensures .after .few) in
+    let e = c .before .before .before .before .before .steps-end .ensures .after in
+    let t : l .symbol < symbolCount = omega (arith, c .before .before .before .loop-test .taken, e .few) in
     let m = c .before .number-of in
     let small : m .result < mostSets = ⊎-elim
     (λ w. new-small _ _ _ _ _ _ _ _ _ _ _ (l .inv) t (m .result) (m .ensures) (w .0 .taken) (w .1 .left))
@@ -127,7 +128,8 @@ loop-less c = omega arith
 loop-again : tie.Need-loop-again Inv-loop μ-loop Inv-all μ-all
 loop-again c =
     let l = c .before .before .before .before .loop in
-    let t : l .symbol < symbolCount = omega (arith, c .before .before .before .loop-test .taken, c .before .before .before .before .before .steps-end .ensures .after .few) in
+    let e = c .before .before .before .before .before .steps-end .ensures .after in
+    let t : l .symbol < symbolCount = omega (arith, c .before .before .before .loop-test .taken, e .few) in
     let m = c .before .number-of in
     ⊎-elim
     (λ w. in-new _ _ _ _ _ _ _ _ _ _ _ (l .inv) t (m .result) (m .ensures) _ (w .2 .ensures) _ _ (w .0 .taken) (w .1 .left) (w .3) (w .4))
@@ -170,7 +172,8 @@ returns-2 : tie.Need-returns-2 Inv-loop μ-loop Inv-all μ-all
 unfolding sideTable
 returns-2 c =
     let l = c .before .before .before .before .before .loop in
-    let t : l .symbol < symbolCount = omega (arith, c .before .before .before .before .loop-test .taken, c .before .before .before .before .before .before .steps-end .ensures .after .few) in
+    let e = c .before .before .before .before .before .before .steps-end .ensures .after in
+    let t : l .symbol < symbolCount = omega (arith, c .before .before .before .before .loop-test .taken, e .few) in
     let m = c .before .before .number-of in
     too-many _ _ _ _ (in-full _ _ _ _ _ _ _ _ _ _ _ (l .inv) t (m .result) (m .ensures) (c .before .if2 .taken) (c .if3 .taken))
 
