@@ -18,18 +18,28 @@ pub struct Book {
     pub words: Vec<Vec<u8>>,
     /// All states; "numbered from 0 as they appear" over the whole book.
     pub states: Vec<State>,
+    /// For each rule, the states of its left, focus and right part.
+    pub parts: Vec<[PartStates; 3]>,
     pub arcs: Vec<Arc>,
-    /// For each state, those of the arcs that lead from it.
-    pub arcs_from: Vec<Vec<Arc>>,
 }
 
-#[derive(Clone, Copy)]
+#[derive(Clone)]
 pub struct State {
     /// "A state belongs to the latest rule."
     pub rule: usize,
     pub part: u8,
     pub start: bool,
     pub accept: bool,
+    /// The arcs that lead from it.
+    pub arcs: Vec<Arc>,
+}
+
+/// The states of one part of one rule, lowest first: "A part may have several start and accept states, or none."
+#[derive(Default, Clone)]
+pub struct PartStates {
+    pub states: Vec<usize>,
+    pub starts: Vec<usize>,
+    pub accepts: Vec<usize>,
 }
 
 #[derive(Clone, Copy)]
@@ -233,19 +243,27 @@ impl Book {
     fn add(&mut self, record: &Record, reading: Reading) {
         let body = record.body.unwrap_or_default();
         match record.kind {
-            RULE => self.words.push(body[1..1 + body[0] as usize].to_vec()),
-            STATE => {
-                let (part, flags) = (body[0], flags_read(body[0], body[1], reading));
-                let (start, accept) = (flags & START != 0, flags & ACCEPT != 0);
-                self.states.push(State { rule: self.words.len() - 1, part, start, accept });
-                self.arcs_from.push(Vec::new());
+            RULE => {
+                self.words.push(body[1..1 + body[0] as usize].to_vec());
+                self.parts.push(Default::default());
             }
+            STATE => self.add_state(body[0], flags_read(body[0], body[1], reading)),
             ARC => {
                 let arc = Arc { from: body[0] as usize, lowest: body[1], highest: body[2], to: body[3] as usize };
                 self.arcs.push(arc);
-                self.arcs_from[arc.from].push(arc);
+                self.states[arc.from].arcs.push(arc);
             }
             _ => {}
         }
+    }
+
+    fn add_state(&mut self, part: u8, flags: u8) {
+        let (number, rule) = (self.states.len(), self.words.len() - 1);
+        let (start, accept) = (flags & START != 0, flags & ACCEPT != 0);
+        self.states.push(State { rule, part, start, accept, arcs: Vec::new() });
+        let part = &mut self.parts[rule][part as usize];
+        part.states.push(number);
+        part.starts.extend(start.then_some(number));
+        part.accepts.extend(accept.then_some(number));
     }
 }

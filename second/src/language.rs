@@ -1,31 +1,29 @@
 //! The language of one part of one rule: the words of its runs from a start state to an accept state.
 
-use crate::book::Book;
+use crate::book::{Book, PartStates};
 use crate::reading::{Reading, Wrong};
-use crate::run::{self, States};
+use crate::run;
 
 /// One part of one rule: "A part may have several start and accept states, or none."
 pub struct Language<'a> {
     book: &'a Book,
     reading: Reading,
-    states: States,
-    pub starts: States,
-    accepts: States,
+    states: &'a [usize],
+    pub starts: &'a [usize],
+    accepts: &'a [usize],
 }
 
 impl<'a> Language<'a> {
     pub fn of(book: &'a Book, rule: usize, part: u8, reading: Reading) -> Language<'a> {
-        let of_part = |state: &usize| book.states[*state].rule == rule && book.states[*state].part == part;
-        let states: States = (0..book.states.len()).filter(of_part).collect();
-        let mut starts: States = states.iter().copied().filter(|state| book.states[*state].start).collect();
-        let mut accepts: States = states.iter().copied().filter(|state| book.states[*state].accept).collect();
-        if reading.is(Wrong::OneStart) {
-            starts.truncate(1);
+        let PartStates { states, starts, accepts } = &book.parts[rule][part as usize];
+        let first = |states: &'a [usize]| &states[..states.len().min(1)];
+        Language {
+            book,
+            reading,
+            states,
+            starts: reading.value(starts, Wrong::OneStart, first(starts)),
+            accepts: reading.value(accepts, Wrong::OneAccept, first(accepts)),
         }
-        if reading.is(Wrong::OneAccept) {
-            accepts.truncate(1);
-        }
-        Language { book, reading, states, starts, accepts }
     }
 
     /// Whether the part has no states. "A part without states accepts no word"

@@ -21,7 +21,7 @@ pub fn ends(book: &Book, from: usize, word: &[u8], reading: Reading) -> States {
 /// The states to which an arc leads from one of these: "An arc is open to each symbol from lowest to highest;
 /// repeated arcs do no harm."
 fn one_further(book: &Book, here: &[usize], symbol: u8, reading: Reading) -> States {
-    let arcs = here.iter().flat_map(|state| &book.arcs_from[*state]);
+    let arcs = here.iter().flat_map(|state| &book.states[*state].arcs);
     let mut further: States = arcs.filter(|arc| arc.open(symbol, reading)).map(|arc| arc.to).collect();
     further.sort_unstable();
     further.dedup();

@@ -34,7 +34,7 @@ pub fn left_set(book: &Book, tape: &[u8], i: usize, reading: Reading) -> Set {
 /// The states of a part that runs from a start state of it, begun at any position up to i, reach at i.
 fn reached_at(book: &Book, part: u8, tape: &[u8], i: usize, reading: Reading) -> States {
     let languages = (0..book.words.len()).map(|rule| Language::of(book, rule, part, reading));
-    let starts: States = languages.flat_map(|language| language.starts).collect();
+    let starts: States = languages.flat_map(|language| language.starts.iter().copied()).collect();
     let mut reached = States::new();
     for begin in 0..=reading.value(i, Wrong::LeftFromFront, 0) {
         for start in &starts {
