@@ -1,11 +1,12 @@
 //! Replies 9 to 14: the tests between the book and the room for the result.
 
 use crate::answer::Lent;
-use crate::book::{Refusal, SYMBOLS};
+use crate::book::{is_bad, Refusal};
 use crate::call::{Call, Operation};
 use crate::reading::{Reading, Wrong};
 use crate::sides::Sides;
 use crate::workspace;
+use crate::wrong_symbol::{of_tape, Counted, Named};
 
 /// "tape 0 to 4,096 symbols, one a byte"
 pub const LONGEST_TAPE: usize = 4096;
@@ -46,7 +47,7 @@ pub fn place_of(reply: u8, call: &Call, sides: &Sides, reading: Reading) -> Opti
     let tape_limit = reading.value(tape_limit, Wrong::TapeOf4097, LONGEST_TAPE + 1);
     let given = match reply {
         9 => call.tape.len() > tape_limit,
-        10 => return bad_symbol(&call.tape, reading),
+        10 => return bad_symbol(call, reading),
         11 => workspace_short(call, reading),
         12 => call.lengths.scratch < reading.value(call.tape.len() + 1, Wrong::ScratchOfN, call.tape.len()),
         13 => sides.left().is_none(),
@@ -55,19 +56,20 @@ pub fn place_of(reply: u8, call: &Call, sides: &Sides, reading: Reading) -> Opti
     given.then_some(0)
 }
 
-/// "a tape symbol above 15: first such position"
-fn bad_symbol(tape: &[u8], reading: Reading) -> Option<usize> {
-    let bad = |symbol: &u8| *symbol as usize >= SYMBOLS;
+/// "a tape symbol above 15: first such position"; above 31 by document 02, No. 6.
+fn bad_symbol(call: &Call, reading: Reading) -> Option<usize> {
+    let of_tape = of_tape(call, reading);
+    let bad = |symbol: &u8| is_bad(*symbol, Named::OnTape, of_tape);
     if reading.is(Wrong::LastBadSymbol) {
-        return tape.iter().rposition(bad);
+        return call.tape.iter().rposition(bad);
     }
-    let first = tape.iter().position(bad)?;
+    let first = call.tape.iter().position(bad)?;
     Some(reading.value(first, Wrong::BadSymbolFromOne, first + 1))
 }
 
-/// "workspace too short, either piece"
+/// "workspace too short, either piece". Document 02, No. 6: "11 at the new length".
 fn workspace_short(call: &Call, reading: Reading) -> bool {
-    let rows = call.lengths.rows < workspace::ROW_BYTES;
+    let rows = call.lengths.rows < workspace::row_bytes(Counted::Asked(call.operation), reading);
     let sets = call.lengths.sets < workspace::SETS;
     rows && !reading.is(Wrong::SetsAlone) || sets && !reading.is(Wrong::RowsAlone)
 }
@@ -75,6 +77,6 @@ fn workspace_short(call: &Call, reading: Reading) -> bool {
 fn leave_workspace(reply: u8, sides: &Sides, lent: &mut Lent, reading: Reading) {
     workspace::clear(lent, reading);
     if let (14, true, Some(left)) = (reply, reading.is(Wrong::FourteenKeepsLeft), sides.left()) {
-        workspace::write_side(lent, 0, left);
+        workspace::write_side(lent, 0, left, reading);
     }
 }

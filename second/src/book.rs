@@ -2,9 +2,10 @@
 
 use crate::reading::{Reading, Wrong};
 use crate::record::{self, ACCEPT, ARC, BOTH, END, FOCUS, LONGEST_WORD, RIGHT, RULE, START, STATE};
+use crate::wrong_symbol::{first_bad_instead, open_instead, Named};
 
-/// "symbols 0 to 15"
-pub const SYMBOLS: usize = 16;
+/// "symbols 0 to 15". Document 02, No. 6: "Symbols run from 0 to 31, also in numbering."
+pub const SYMBOLS: usize = 32;
 pub const HIGHEST_SYMBOL: u8 = SYMBOLS as u8 - 1;
 /// "rules 1 to 16; states at most 64; arcs at most 512"
 pub const MOST_RULES: usize = 16;
@@ -54,7 +55,8 @@ impl Arc {
     /// "An arc is open to each symbol from lowest to highest"
     pub fn open(&self, symbol: u8, reading: Reading) -> bool {
         let highest_counts = !reading.is(Wrong::HighestOpen) || symbol < self.highest;
-        self.lowest <= symbol && symbol <= self.highest && highest_counts
+        let truly = self.lowest <= symbol && symbol <= self.highest;
+        open_instead(self, symbol, reading).unwrap_or(truly && highest_counts)
     }
 }
 
@@ -168,7 +170,12 @@ fn has_fault(book: &Book, record: &Record, reply: u8, reading: Reading) -> bool 
     }
 }
 
-/// "a field is outside the table above, a symbol above 15, or lowest above highest"
+/// Document 02, No. 6: "5 and 10 now begin at 32".
+pub fn is_bad(symbol: u8, named: Named, reading: Reading) -> bool {
+    symbol as usize >= first_bad_instead(named, reading).unwrap_or(SYMBOLS)
+}
+
+/// "a field is outside the table above, a symbol above 15, or lowest above highest"; a symbol above 31 by document 02.
 fn has_bad_field(kind: u8, body: &[u8], reading: Reading) -> bool {
     match kind {
         RULE => has_bad_word(body[0] as usize, &body[1..], reading),
@@ -183,15 +190,14 @@ fn has_bad_word(length: usize, symbols: &[u8], reading: Reading) -> bool {
         return true;
     }
     let (word, unused) = symbols.split_at(length);
-    let bad_symbol = word.iter().any(|symbol| *symbol as usize >= SYMBOLS);
+    let bad_symbol = word.iter().any(|symbol| is_bad(*symbol, Named::InWord, reading));
     let used_beyond = unused.iter().any(|symbol| *symbol != 0);
     bad_symbol && !reading.is(Wrong::WordSymbolsFree) || used_beyond && !reading.is(Wrong::UnusedFree)
 }
 
 fn has_bad_symbols(lowest: u8, highest: u8, reading: Reading) -> bool {
-    let most = reading.value(HIGHEST_SYMBOL, Wrong::HighestSixteen, HIGHEST_SYMBOL + 1);
-    let above = lowest > HIGHEST_SYMBOL || highest > most;
-    above || lowest > highest || reading.is(Wrong::LowestBelowHighest) && lowest == highest
+    let bad_symbol = is_bad(lowest, Named::AsLowest, reading) || is_bad(highest, Named::AsHighest, reading);
+    bad_symbol || lowest > highest || reading.is(Wrong::LowestBelowHighest) && lowest == highest
 }
 
 fn has_large_state(body: &[u8], reading: Reading) -> bool {

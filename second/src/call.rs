@@ -193,7 +193,7 @@ impl Call {
         for piece in crate::record::pieces(&self.book) {
             words += &format!("  book: {}\n", crate::record::in_words(&piece));
         }
-        words += &format!("  tape of {}: {}\n", self.tape.len(), crate::hex::shown(&self.tape));
+        words += &format!("  tape of {}: {}\n", self.tape.len(), crate::digits::shown(&self.tape));
         for (at, Lane { start, length }) in self.lanes.iter().enumerate() {
             words += &format!("  lane {at}: start {start}, length {length}\n");
         }

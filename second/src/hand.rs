@@ -1,5 +1,5 @@
-//! The books worked by hand beside the house book: those of document 01, "Tapes worked by hand", and two of our own for
-//! document 02, No. 4 and No. 5.
+//! The books worked by hand beside the house book: those of document 01, "Tapes worked by hand", and three of our own for
+//! document 02, No. 4, No. 5 and No. 6.
 
 use crate::draft::{self, Part, Rule};
 use crate::record::{ACCEPT, START};
@@ -73,5 +73,15 @@ pub fn laps() -> Vec<u8> {
         Rule::new(Part::any(), Part::word(&[2, 4]).with_arc(1, 3, 3, 1), Part::any(), &[8]),
         Rule::new(touched, nothing.clone(), Part::any(), &[6]),
         Rule::new(Part::any(), nothing, Part::word(&[9]), &[7]),
+    ])
+}
+
+/// "The backstroke ledge sends events of its own", 16 to 31: rule 0 one or more of them before quiet to 31; rule 1 the
+/// first of them after 15 to 16 and 15.
+pub fn ledge() -> Vec<u8> {
+    let events = Part { flags: vec![START, ACCEPT], arcs: Vec::new() }.with_arc(0, 16, 31, 1).with_arc(1, 16, 31, 1);
+    draft::book(&[
+        Rule::new(Part::any(), events, Part::word(&[0]), &[31]),
+        Rule::new(Part::word(&[15]), Part::word(&[16]), Part::any(), &[16, 15]),
     ])
 }

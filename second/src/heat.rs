@@ -38,6 +38,7 @@ fn heat_in_order(call: &Call, lent: &mut Lent, agreement: &Agreement) -> Result<
     let book = book::read(&call.book, reading)?;
     few_lanes(call, Some(Wrong::LanesAfterBook), reading)?;
     let sides = Sides::of(&book, agreement);
+    let reading = sides.reading;
     let built = build(call, &sides, lent, reading);
     if !reading.is(Wrong::BuildRefusesLanes) {
         built?;
@@ -70,7 +71,7 @@ fn few_lanes(call: &Call, now: Option<Wrong>, reading: Reading) -> Result<(), Re
 
 /// The lanes "one after another, each with the room still left; scratch ends likewise".
 fn go_through(call: &Call, sides: &Sides, lent: &mut Lent) {
-    let reading = sides.agreement.reading;
+    let reading = sides.reading;
     let mut used = Used::default();
     for (turns, at) in order(call, reading).into_iter().enumerate() {
         let scratch = lent.scratch.clone();

@@ -9,16 +9,3 @@ pub fn read(digits: &str) -> Option<Vec<u8>> {
     let digits = digits?;
     (digits.len() % 2 == 0).then(|| digits.chunks(2).map(|pair| pair[0] << 4 | pair[1]).collect())
 }
-
-/// A tape for reading: one digit a symbol as in document 01, and every bad symbol as <number>.
-pub fn shown(tape: &[u8]) -> String {
-    tape.iter().map(|symbol| symbol_shown(*symbol)).collect()
-}
-
-fn symbol_shown(symbol: u8) -> String {
-    if symbol < 16 {
-        format!("{symbol:x}")
-    } else {
-        format!("<{symbol}>")
-    }
-}

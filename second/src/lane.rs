@@ -41,7 +41,7 @@ impl Turn<'_> {
     }
 
     pub fn reading(&self) -> Reading {
-        self.sides.agreement.reading
+        self.sides.reading
     }
 
     /// What the lane gets: 17, or what REWRITE gives for its tape alone.

@@ -1,10 +1,10 @@
-//! The independent second program: what document 01 says, with No. 1, No. 2, No. 4 and No. 5 of document 02, worked out
-//! by brute force, and compared with what the proved operations do. It shares no code, no table and no constant with
+//! The independent second program: what document 01 says, with No. 1, No. 2 and No. 4 to No. 6 of document 02, worked
+//! out by brute force, and compared with what the proved operations do. It shares no code, no table and no constant with
 //! them.
 //!
 //! The reference is read in this order: `record`, `book`, `run`, `language`, `candidates`, `taken`, `stretches`,
 //! `output`, `account`, `sets`, `numbering`, `sides`, `workspace`, `admission`, `room`, `rewrite`, `show`, `lane`, `heat`,
-//! `operations`, `program`; `agreement` says where `fast` stands in for it. Beside it stand the random calls
+//! `operations`, `digits`, `program`; `agreement` says where `fast` stands in for it. Beside it stand the random calls
 //! (`generate`), the driving of another program (`call`, `answer`, `command`, `comparison`), the search for a smallest
 //! failing case (`shrink`), and the commands (`check`, `check_program`, `serve`).
 
@@ -20,6 +20,7 @@ pub mod check;
 pub mod check_program;
 pub mod command;
 pub mod comparison;
+pub mod digits;
 pub mod draft;
 pub mod fast;
 pub mod generate;
@@ -48,6 +49,8 @@ pub mod stretches;
 pub mod taken;
 pub mod tally;
 pub mod workspace;
+pub mod wrong_digit;
 pub mod wrong_insertion;
 pub mod wrong_lane;
 pub mod wrong_mark;
+pub mod wrong_symbol;

@@ -1,21 +1,26 @@
 //! The numbering of each side's sets, found by trying tapes.
 //!
 //! Document 01: "Each side's sets are numbered: 0 for the empty tape; then, for each numbered set in turn and each
-//! symbol 0 to 15, the next set not met before gets the next number."
+//! symbol 0 to 15, the next set not met before gets the next number." Document 02, No. 6: "Symbols run from 0 to 31, also
+//! in numbering."
 
-use crate::book::{Book, SYMBOLS};
+use crate::book::{Book, HIGHEST_SYMBOL, SYMBOLS};
 use crate::reading::{Reading, Wrong};
 use crate::sets::{left_set, right_set, Set};
+use crate::wrong_symbol::numbered_instead;
 
 /// "at most 256 sets on each side"
 pub const MOST_SETS: usize = 256;
+
+/// For each symbol, the number of the next set.
+pub type Row = [usize; SYMBOLS];
 
 /// The numbered sets of one side.
 #[derive(Clone, PartialEq, Eq, Debug)]
 pub struct Side {
     pub sets: Vec<Set>,
-    /// For each numbered set and symbol, the number of the next set.
-    pub rows: Vec<[usize; SYMBOLS]>,
+    /// The row of each numbered set.
+    pub rows: Vec<Row>,
 }
 
 impl Side {
@@ -74,10 +79,24 @@ impl<T, S: Fn(&T) -> Set> Numbering<T, S> {
         self.tapes.push(tape);
         Some(self.sets.len() - 1)
     }
+
+    /// "for each numbered set in turn and each symbol": the set's tape is tried with the symbol put to it.
+    fn rows(&mut self, symbols: &[u8], put: impl Fn(&T, u8) -> T, reading: Reading) -> Option<Vec<Row>> {
+        let mut rows = vec![None; self.sets.len()];
+        while let Some(number) = next_without_row(&rows, reading) {
+            let mut row = [0; SYMBOLS];
+            for symbol in symbols {
+                row[*symbol as usize] = self.number(put(&self.tapes[number], *symbol))?;
+            }
+            rows[number] = Some(row);
+            rows.resize(self.sets.len(), None);
+        }
+        Some(rows.into_iter().flatten().collect())
+    }
 }
 
-/// "for each numbered set in turn and each symbol 0 to 15": the set's tape is tried with the symbol put to it. What
-/// stands for a tape is the tape itself, or anything else that `set_of` knows the set of.
+/// The sets of one side by number. What stands for a tape is the tape itself, or anything else that `set_of` knows the
+/// set of.
 pub fn numbered<T>(
     empty: T,
     put: impl Fn(&T, u8) -> T,
@@ -87,29 +106,17 @@ pub fn numbered<T>(
 ) -> Option<Side> {
     let mut numbering = Numbering { set_of, most, sets: Vec::new(), tapes: Vec::new() };
     numbering.number(empty)?;
-    let mut rows = vec![None];
-    while let Some(number) = next_without_row(&rows, reading) {
-        let mut row = [0; SYMBOLS];
-        for symbol in symbols(reading) {
-            row[symbol as usize] = numbering.number(put(&numbering.tapes[number], symbol))?;
-        }
-        rows[number] = Some(row);
-        rows.resize(numbering.sets.len(), None);
+    let in_order = || vec![(0..=HIGHEST_SYMBOL).collect()];
+    let mut rows = Vec::new();
+    for symbols in numbered_instead(reading).unwrap_or_else(in_order) {
+        rows = numbering.rows(&symbols, &put, reading)?;
     }
-    Some(Side { sets: numbering.sets, rows: rows.into_iter().flatten().collect() })
+    Some(Side { sets: numbering.sets, rows })
 }
 
-fn next_without_row(rows: &[Option<[usize; SYMBOLS]>], reading: Reading) -> Option<usize> {
+fn next_without_row(rows: &[Option<Row>], reading: Reading) -> Option<usize> {
     match reading.is(Wrong::DeepestFirst) {
         false => rows.iter().position(Option::is_none),
         true => rows.iter().rposition(Option::is_none),
-    }
-}
-
-fn symbols(reading: Reading) -> Vec<u8> {
-    let upward = 0..SYMBOLS as u8;
-    match reading.is(Wrong::SymbolsDownward) {
-        false => upward.collect(),
-        true => upward.rev().collect(),
     }
 }

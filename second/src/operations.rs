@@ -70,9 +70,9 @@ fn check(call: &Call, reading: Reading) -> Result<Counts, Refusal> {
 
 /// "BUILD the two set counts"
 fn build(call: &Call, lent: &mut Lent, agreement: &Agreement) -> Result<Counts, Refusal> {
-    let reading = agreement.reading;
-    let book = book::read(&call.book, reading)?;
+    let book = book::read(&call.book, agreement.reading)?;
     let sides = Sides::of(&book, agreement);
+    let reading = sides.reading;
     admit(call, &sides, lent, reading)?;
     let (left, right) = sides.both();
     workspace::write(lent, left, right, reading);
@@ -80,9 +80,9 @@ fn build(call: &Call, lent: &mut Lent, agreement: &Agreement) -> Result<Counts, 
 }
 
 fn rewrite(call: &Call, lent: &mut Lent, agreement: &Agreement) -> Result<Counts, Refusal> {
-    let reading = agreement.reading;
-    let book = book::read(&call.book, reading)?;
+    let book = book::read(&call.book, agreement.reading)?;
     let sides = Sides::of(&book, agreement);
+    let reading = sides.reading;
     admit(call, &sides, lent, reading)?;
     let stretches = agreement.stretches(&book, &call.tape);
     let reading = reading.value(reading, Wrong::LanesAloneAtLast, Reading::with(Wrong::AllAtStart));
@@ -93,9 +93,9 @@ fn rewrite(call: &Call, lent: &mut Lent, agreement: &Agreement) -> Result<Counts
 
 /// "ACCOUNT the number of candidates"
 fn account(call: &Call, lent: &mut Lent, agreement: &Agreement) -> Result<Counts, Refusal> {
-    let reading = agreement.reading;
-    let book = book::read(&call.book, reading)?;
+    let book = book::read(&call.book, agreement.reading)?;
     let sides = Sides::of(&book, agreement);
+    let reading = sides.reading;
     admit(call, &sides, lent, reading)?;
     let untouched = lent.clone();
     workspace::fill(call, &sides, lent, reading);

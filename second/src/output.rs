@@ -1,11 +1,12 @@
 //! The output and its origins: document 01, "Which stretches are replaced", and document 02, No. 4 and No. 5. What
-//! wrong readings make of a replacement's origins is in `wrong_mark`, and what they keep around an inserted word in
-//! `wrong_insertion`.
+//! wrong readings make of a replacement's origins is in `wrong_mark`, what they keep around an inserted word in
+//! `wrong_insertion`, and what they make of symbols above 15 in `wrong_symbol`.
 
 use crate::book::Book;
 use crate::candidates::Stretch;
 use crate::reading::{Reading, Wrong};
 use crate::wrong_insertion::{kept_around, with_kept_late};
+use crate::wrong_symbol::folded;
 
 pub struct Output {
     pub symbols: Vec<u8>,
@@ -46,7 +47,7 @@ impl Output {
     fn keep(&mut self, tape: &[u8], from: usize, to: usize, reading: Reading) {
         for (position, symbol) in tape.iter().enumerate().take(to).skip(from) {
             let origin = reading.value(position, Wrong::OriginInOutput, self.symbols.len());
-            self.symbols.push(*symbol);
+            self.symbols.push(reading.value(*symbol, Wrong::KeptFolded, folded(*symbol)));
             self.origins.push(origin as u16);
         }
     }
@@ -55,7 +56,7 @@ impl Output {
         for (place, symbol) in word.iter().enumerate() {
             let mark = Mark { word, place, stretch, tape, written: self.symbols.len() };
             let origin = mark.wrong_origin(reading).unwrap_or(mark.origin());
-            self.symbols.push(*symbol);
+            self.symbols.push(reading.value(*symbol, Wrong::WordFolded, folded(*symbol)));
             self.origins.push(origin as u16);
         }
     }

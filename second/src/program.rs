@@ -1,18 +1,21 @@
-//! The program: document 01, "House book and program".
+//! The program: document 01, "House book and program", and document 02, No. 6.
 
 use crate::account::{FIVE_WORDS, WORDS_A_LINE};
 use crate::admission::LONGEST_TAPE;
 use crate::answer::Answer;
+use crate::book::HIGHEST_SYMBOL;
 use crate::call::{Call, Lengths, Operation};
+use crate::digits;
 use crate::house;
 use crate::operations;
 use crate::reading::{Reading, Wrong};
 use crate::workspace;
+use crate::wrong_digit::{printed_instead, read_instead};
 
 /// "It gives the account 6,000 words."
 pub const ACCOUNT_WORDS: usize = 6000;
-/// "another character counts as symbol 16"
-const OTHER: u8 = 16;
+/// "another character counts as symbol 16". Document 02, No. 6: "another character counts as 32".
+pub const OTHER: u8 = HIGHEST_SYMBOL + 1;
 
 /// All that the program prints for an input.
 pub fn run(input: &[u8], reading: Reading) -> String {
@@ -43,23 +46,18 @@ pub fn lines(input: &[u8], reading: Reading) -> Vec<&[u8]> {
     lines
 }
 
-/// "lines of hex digits (0 to 9, a to f)"
+/// "lines of hex digits (0 to 9, a to f)". Document 02, No. 6: "The program prints and reads 0 to 9 and a to v".
 fn tape(line: &[u8], reading: Reading) -> Vec<u8> {
     let line = match line {
         [front @ .., b'\r'] if reading.is(Wrong::ReturnDropped) => front,
         _ => line,
     };
-    let symbols = line.iter().map(|byte| symbol(*byte, reading));
+    let symbols = line.iter().map(|character| symbol(*character, reading));
     symbols.filter(|symbol| *symbol != OTHER || !reading.is(Wrong::OtherDropped)).collect()
 }
 
-fn symbol(byte: u8, reading: Reading) -> u8 {
-    match byte {
-        b'0'..=b'9' => byte - b'0',
-        b'a'..=b'f' => byte - b'a' + 10,
-        b'A'..=b'F' if reading.is(Wrong::CapitalsRead) => byte - b'A' + 10,
-        _ => OTHER,
-    }
+fn symbol(character: u8, reading: Reading) -> u8 {
+    read_instead(character, reading).unwrap_or(digits::read(character).unwrap_or(OTHER))
 }
 
 /// The REWRITE and the ACCOUNT of one tape.
@@ -115,10 +113,15 @@ fn refusal_printed(answer: &Answer) -> String {
 fn output_printed(output: &Answer, reading: Reading) -> String {
     let [length, taken, ..] = output.counts;
     let minus = reading.value("-", Wrong::EmptyOutputBlank, "");
-    let symbols: String = output.lent.out[..length as usize].iter().map(|symbol| format!("{symbol:x}")).collect();
+    let symbols: String = output.lent.out[..length as usize].iter().map(|symbol| printed(*symbol, reading)).collect();
     let origins = spaced(&output.lent.origins[..length as usize]);
     let or_minus = |text: String| if length == 0 { minus.to_string() } else { text };
     format!("W {length} {taken} {}\nO {}\n", or_minus(symbols), or_minus(origins))
+}
+
+/// One digit; only a wrong reading comes to print a bad symbol.
+fn printed(symbol: u8, reading: Reading) -> String {
+    printed_instead(symbol, reading).unwrap_or_else(|| digits::shown(&[symbol]))
 }
 
 fn spaced(words: &[u16]) -> String {

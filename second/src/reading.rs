@@ -1,4 +1,4 @@
-//! How document 01, with No. 1, No. 2, No. 4 and No. 5 of document 02, is read: truly, or with one wrong reading put
+//! How document 01, with No. 1, No. 2 and No. 4 to No. 6 of document 02, is read: truly, or with one wrong reading put
 //! in.
 //!
 //! A check that cannot fail is a defect, so every wrong reading below can be put into the reference
@@ -55,9 +55,8 @@ wrong_readings! {
     FiveHundredThirteenArcs, "513-arcs", "513 arcs are accepted.";
     WordOfSeven, "word-of-seven", "A replacement of eight symbols is refused.";
     UnusedFree, "unused-free", "An unused symbol byte need not be 0.";
-    WordSymbolsFree, "word-symbols-free", "A replacement symbol may be above 15.";
+    WordSymbolsFree, "word-symbols-free", "A replacement symbol may be above 31.";
     LowestBelowHighest, "lowest-below-highest", "Lowest must be strictly below highest.";
-    HighestSixteen, "highest-sixteen", "An arc may have 16 as its highest symbol.";
     HighestOpen, "highest-open", "An arc is not open to its highest symbol.";
     EarlierRuleNamed, "earlier-rule-named", "An arc may name states of an earlier rule.";
     TwoPartsNamed, "two-parts-named", "An arc may lead from one part to another.";
@@ -88,7 +87,7 @@ wrong_readings! {
     FocusEndLater, "focus-end-later", "A focus state is in the right set only if its stretch has a symbol.";
     RightSetAnchored, "right-set-anchored", "A right-part state's word must reach the tape's end.";
     LeftSetWithFocus, "left-set-with-focus", "The left set holds focus states too.";
-    SymbolsDownward, "symbols-downward", "The sets are numbered for symbols 15 down to 0.";
+    SymbolsDownward, "symbols-downward", "The sets are numbered for symbols 31 down to 0.";
     DeepestFirst, "deepest-first", "The newest set is numbered on before the older ones.";
     RightRowsBehind, "right-rows-behind", "A right row's symbol is put behind the tape.";
     SidesSwapped, "sides-swapped", "Right rows and sets stand before the left ones.";
@@ -313,8 +312,62 @@ wrong_readings! {
     StartAboveEndTurned, "start-above-end-turned", "If start is above end SHOW hands back the stretch between them.";
     StartAboveEndAtStart, "start-above-end-at-start", "If start is above end SHOW hands back the empty part at start.";
 
-    // The program.
-    CapitalsRead, "capitals-read", "A to F are hex digits too.";
+    // Thirty-two symbols: document 02, No. 6. First where 5 and 10 begin.
+    SixteenSymbols, "sixteen-symbols", "There are still sixteen symbols, as document 01 alone has it.";
+    WordFromSixteen, "word-from-sixteen", "5 begins at 16 for a symbol of a word.";
+    WordFromThirtyOne, "word-from-thirty-one", "5 begins at 31 for a symbol of a word.";
+    WordFromThirtyThree, "word-from-thirty-three", "5 begins at 33 for a symbol of a word.";
+    LowestFromSixteen, "lowest-from-sixteen", "5 begins at 16 for an arc's lowest symbol.";
+    HighestFromSixteen, "highest-from-sixteen", "5 begins at 16 for an arc's highest symbol.";
+    HighestFromThirtyOne, "highest-from-thirty-one", "5 begins at 31 for an arc's highest symbol.";
+    HighestFromThirtyThree, "highest-from-thirty-three", "5 begins at 33 for an arc's highest symbol.";
+    ArcFromThirtyThree, "arc-from-thirty-three", "5 begins at 33 for both symbols of an arc.";
+    TapeFromSixteen, "tape-from-sixteen", "10 begins at 16.";
+    TapeFromThirtyOne, "tape-from-thirty-one", "10 begins at 31.";
+    TapeFromThirtyThree, "tape-from-thirty-three", "10 begins at 33.";
+    AccountFromSixteen, "account-from-sixteen", "10 of ACCOUNT begins at 16.";
+    LaneFromSixteen, "lane-from-sixteen", "10 of a lane begins at 16.";
+    OldBookFromSixteen, "old-book-from-sixteen", "10 begins at 16 with a book that names no symbol above 15.";
+
+    // What the arcs are open to, and what is written.
+    OldRangeOpen, "old-range-open", "An arc from 0 to 15 is open to every symbol.";
+    UpperClosed, "upper-closed", "No arc is open to a symbol above 15.";
+    UpperFolded, "upper-folded", "A symbol above 15 goes along the arcs of the symbol 16 below it.";
+    KeptFolded, "kept-folded", "A kept symbol above 15 is written as the symbol 16 below it.";
+    WordFolded, "word-folded", "A symbol above 15 of a word is written as the symbol 16 below it.";
+
+    // The numbering, the rows and where 11 begins.
+    UpperUnnumbered, "upper-unnumbered", "The sets are numbered for symbols 0 to 15 alone, and other entries are 0.";
+    UpperFirst, "upper-first", "The sets are numbered for symbols 16 to 31 before 0 to 15.";
+    UpperLast, "upper-last", "The sets are numbered for symbols 0 to 15 throughout, and only then on for 16 to 31.";
+    SymbolsInPairs, "symbols-in-pairs", "The sets are numbered for symbols 0 and 16, then 1 and 17, and so on.";
+    RowsOfSixteen, "rows-of-sixteen", "Rows still have 16 entries, and the byte workspace 8,192 bytes.";
+    UpperEntriesZero, "upper-entries-zero", "A row's entries of symbols 16 to 31 are 0.";
+    UpperEntriesFirst, "upper-entries-first", "A row's entries of symbols 16 to 31 stand before those of 0 to 15.";
+    UpperRowsApart, "upper-rows-apart", "Entries of symbols 16 to 31 stand in rows of their own after the old ones.";
+    RightRowsEarly, "right-rows-early", "The right rows still begin at byte 4,096.";
+    OldLengthEnough, "old-length-enough", "11 still begins below 8,192 bytes.";
+    HeatOldLength, "heat-old-length", "11 of HEAT still begins below 8,192 bytes.";
+    OldBookOldLength, "old-book-old-length", "11 begins below 8,192 bytes with a book that names no symbol above 15.";
+    OldBookOldRows, "old-book-old-rows", "A book that names no symbol above 15 keeps rows of 16 entries.";
+    OldFrontCleared, "old-front-cleared", "13 and 14 clear the first 8,192 bytes of the rows alone.";
+    OldFrontWritten, "old-front-written", "Entries past a count are 0 in the first 8,192 bytes alone.";
+
+    // The program, its digits first.
+    OtherIsSixteen, "other-is-sixteen", "Another character counts as 16, which is a symbol now.";
+    DigitsToF, "digits-to-f", "Only 0 to 9 and a to f are read.";
+    DigitsFolded, "digits-folded", "g to v are read as the symbols 16 below them.";
+    DigitsUnlike, "digits-unlike", "The letters read are a to z without i, l, o and u.";
+    CapitalsRead, "capitals-read", "A to V are digits too.";
+    NewCapitalsRead, "new-capitals-read", "G to V are digits too.";
+    AfterNineRead, "after-nine-read", "The character after 9 is read as 10.";
+    BeforeARead, "before-a-read", "The character before a is read as 9.";
+    PrintedCapital, "printed-capital", "Letters are printed as capitals.";
+    NewPrintedCapital, "new-printed-capital", "g to v are printed as capitals.";
+    PrintedInHex, "printed-in-hex", "A symbol above 15 is printed as two hex digits.";
+    PrintedFolded, "printed-folded", "A symbol above 15 is printed as the symbol 16 below it.";
+    PrintedLate, "printed-late", "A symbol above 15 is printed one letter too late.";
+    PrintedUnlike, "printed-unlike", "The letters printed are a to z without i, l, o and u.";
     ReturnDropped, "return-dropped", "A carriage return before the newline is dropped.";
     OtherDropped, "other-dropped", "Another character is skipped.";
     EmptyLineSkipped, "empty-line-skipped", "An empty line is no tape.";

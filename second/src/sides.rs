@@ -5,18 +5,23 @@ use std::cell::OnceCell;
 use crate::agreement::Agreement;
 use crate::book::Book;
 use crate::numbering::Side;
+use crate::reading::Reading;
+use crate::wrong_symbol::with_book;
 
 /// The two sides of a book, worked out only if they are asked for.
 pub struct Sides<'a> {
     pub book: &'a Book,
     pub agreement: &'a Agreement,
+    /// How the call is read once its book is known.
+    pub reading: Reading,
     left: OnceCell<Option<Side>>,
     right: OnceCell<Option<Side>>,
 }
 
 impl<'a> Sides<'a> {
     pub fn of(book: &'a Book, agreement: &'a Agreement) -> Sides<'a> {
-        Sides { book, agreement, left: OnceCell::new(), right: OnceCell::new() }
+        let reading = with_book(book, agreement.reading);
+        Sides { book, agreement, reading, left: OnceCell::new(), right: OnceCell::new() }
     }
 
     pub fn left(&self) -> Option<&Side> {

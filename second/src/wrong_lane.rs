@@ -17,7 +17,7 @@ use crate::taken::taken;
 use crate::workspace;
 
 /// Those that are wrong readings of the lane's REWRITE.
-const OF_REWRITE: [(Wrong, Wrong); 7] = [
+const OF_REWRITE: [(Wrong, Wrong); 8] = [
     (Wrong::LaneSymbolBeforeLength, Wrong::SymbolBeforeLength),
     (Wrong::LaneRoomKeepsScratch, Wrong::RoomKeepsScratch),
     (Wrong::LaneRoomOfOut, Wrong::OriginsUntested),
@@ -25,6 +25,7 @@ const OF_REWRITE: [(Wrong, Wrong); 7] = [
     (Wrong::LanesAtStart, Wrong::AllAtStart),
     (Wrong::LanesInsertNothing, Wrong::NothingInserted),
     (Wrong::LaneEndNotRewritten, Wrong::EndNotRewritten),
+    (Wrong::LaneFromSixteen, Wrong::TapeFromSixteen),
 ];
 
 /// Those by which a reply is given for the whole common buffer.

@@ -1,4 +1,4 @@
-//! The reference, and the fast stand-in, against document 01, with No. 1, No. 4 and No. 5 of document 02, read as
+//! The reference, and the fast stand-in, against document 01, with No. 1 and No. 4 to No. 6 of document 02, read as
 //! literally as can be: every run followed on its own, from state to state. Slow, so small tapes alone.
 
 use std::slice;
@@ -191,7 +191,7 @@ fn answered_by(operation: Operation, book: &[u8], tape: &[u8], reading: Reading)
     call.book = book.to_vec();
     call.tape = tape.to_vec();
     let (scratch, lines) = (LONGEST + 1, MOST_WORDS);
-    call.lengths = Lengths { rows: 8192, sets: 512, scratch, out: MOST_OUT, origins: MOST_OUT, lines };
+    call.lengths = Lengths { rows: 16_384, sets: 512, scratch, out: MOST_OUT, origins: MOST_OUT, lines };
     answer(&call, reading)
 }
 
@@ -380,7 +380,7 @@ fn follow_rows(answer: &Answer, first: usize, symbols: impl Iterator<Item = u8>,
     let mut number = 0;
     assert_eq!(Some(answer.lent.sets[first]), sets.next());
     for (symbol, set) in symbols.zip(sets) {
-        number = answer.lent.rows[(first + number) * 16 + symbol as usize] as usize;
+        number = answer.lent.rows[(first + number) * 32 + symbol as usize] as usize;
         assert_eq!(answer.lent.sets[first + number], set);
     }
 }
@@ -393,7 +393,7 @@ fn numbers_come_up_in_order() {
         let answer = answered(Operation::Build, &bytes, &[]);
         for side in [0, 1] {
             let count = answer.counts[side] as usize;
-            let rows = &answer.lent.rows[side * 4096..][..count * 16];
+            let rows = &answer.lent.rows[side * 8192..][..count * 32];
             let last = rows.iter().fold(0, |met, next| {
                 assert!(*next as usize <= met + 1, "book {number}");
                 met.max(*next as usize)

@@ -1,13 +1,14 @@
 //! The hand-worked table of document 01, the account of case 8, and the program's example; lines have the sixth word of
-//! document 02, No. 1. Beside the table stand rows of our own for document 02, No. 4 and No. 5.
+//! document 02, No. 1. Beside the table stand rows of our own for document 02, No. 4 to No. 6.
 
 use second::account::{Line, WORDS_A_LINE};
 use second::answer::Answer;
 use second::call::{Call, Lengths, Operation};
+use second::digits::shown;
 use second::draft::{self, Part, Rule};
 use second::operations::answer;
 use second::reading::Reading;
-use second::{hand, hex, house, program};
+use second::{hand, house, program};
 
 /// A call with room for everything.
 fn call(operation: Operation, book: &[u8], tape: &[u8]) -> Call {
@@ -15,7 +16,7 @@ fn call(operation: Operation, book: &[u8], tape: &[u8]) -> Call {
     call.fill = 0xee;
     call.book = book.to_vec();
     call.tape = tape.to_vec();
-    call.lengths = Lengths { rows: 8192, sets: 512, scratch: tape.len() + 1, out: 50, origins: 50, lines: 100 };
+    call.lengths = Lengths { rows: 16_384, sets: 512, scratch: tape.len() + 1, out: 50, origins: 50, lines: 100 };
     call
 }
 
@@ -24,7 +25,7 @@ fn answered(operation: Operation, book: &[u8], tape: &[u8]) -> Answer {
 }
 
 fn digits(tape: &str) -> Vec<u8> {
-    tape.chars().map(|digit| digit.to_digit(16).expect("a hex digit") as u8).collect()
+    tape.chars().map(|digit| digit.to_digit(32).expect("0 to 9 or a to v") as u8).collect()
 }
 
 /// One row of the table: output and origins, and nothing written past them.
@@ -32,7 +33,7 @@ fn works_out(case: &str, book: &[u8], tape: &[u8], output: &[u8], origins: &[u16
     let answer = answered(Operation::Rewrite, book, tape);
     assert_eq!(answer.reply, 0, "{case}");
     assert_eq!(answer.counts[0] as usize, output.len(), "{case}");
-    assert_eq!(hex::shown(&answer.lent.out[..output.len()]), hex::shown(output), "{case}");
+    assert_eq!(shown(&answer.lent.out[..output.len()]), shown(output), "{case}");
     assert_eq!(&answer.lent.origins[..output.len()], origins, "{case}");
     assert!(answer.lent.out[output.len()..].iter().all(|symbol| *symbol == 0xee), "{case}");
     assert!(answer.lent.origins[output.len()..].iter().all(|origin| *origin == 0xeeee), "{case}");
@@ -280,6 +281,42 @@ fn laps() {
     accounts_for(&hand::laps(), &digits(LAPS), &lines);
 }
 
+/// Both times rule 0 takes what stands after f and before quiet, and wins over rule 1 there; at the end rule 1 has no
+/// quiet after it.
+const LEDGE: &str = "fgv0fghg0fg1";
+
+/// Document 02, No. 6: a row of our own.
+#[test]
+fn ledge() {
+    let origins = [0, 1, 3, 4, 5, 8, 9, 10, 10, 11];
+    works_out("ledge", &hand::ledge(), &digits(LEDGE), &digits("fv0fv0fgf1"), &origins);
+    let lines = [
+        [1, 1, 2, 1, 1, 0],
+        [0, 1, 3, 0, 1, 0],
+        [0, 2, 3, 3, 1, 0],
+        [1, 5, 6, 1, 5, 0],
+        [0, 5, 8, 0, 5, 0],
+        [0, 6, 8, 3, 5, 0],
+        [0, 7, 8, 3, 5, 0],
+        [1, 10, 11, 0, 10, 1],
+    ];
+    accounts_for(&hand::ledge(), &digits(LEDGE), &lines);
+}
+
+/// For each symbol a book that makes it 31 less that symbol, on a tape of all of them.
+#[test]
+fn every_symbol_is_replaced_kept_and_written() {
+    let tape: Vec<u8> = (0..32).collect();
+    let origins: Vec<u16> = (0..32).collect();
+    for symbol in 0..32 {
+        let (focus, word) = (Part::word(&[symbol]), 31 - symbol);
+        let mut output = tape.clone();
+        output[symbol as usize] = word;
+        let book = draft::book(&[Rule::new(Part::any(), focus, Part::any(), &[word])]);
+        works_out(&format!("{symbol} to {word}"), &book, &tape, &output, &origins);
+    }
+}
+
 /// Rule 0 x, rule 1 y, rules 2 to 4 xyz: rule 2 decides by every verdict, and neither the lowest rule nor the last one
 /// taken does.
 #[test]
@@ -328,6 +365,28 @@ fn program_at_its_edges() {
     let short = program::run(&b"245".repeat(1001), Reading::TRUE);
     assert!(short.starts_with("W 2002 1001 85") && short.ends_with("\nX 15 6006\n"));
     assert_eq!(short.lines().count(), 3);
+}
+
+/// Document 02, No. 6: "The program prints and reads 0 to 9 and a to v, and another character counts as 32."
+#[test]
+fn program_reads_and_prints_0_to_9_and_a_to_v() {
+    let prints = |input: &str, printed: &str| assert_eq!(program::run(input.as_bytes(), Reading::TRUE), printed);
+    let origins = "O 0 1 2 3 4 5 6 7 8 9 10 11 12 13 14 15\n";
+    prints("ghijklmnopqrstuv", &format!("W 16 0 ghijklmnopqrstuv\n{origins}"));
+    prints("fedcba9876543210", &format!("W 16 0 fedcba9876543210\n{origins}"));
+    // A touch between events of the ledge, before quiet and before them.
+    prints("v2400g\n24g", "W 5 1 v900g\nO 0 1 3 4 5\nC 2 1 3 0 1 2\nW 3 0 24g\nO 0 1 2\n");
+    prints("w", "X 10 0\n");
+    prints("vw", "X 10 1\n");
+    prints("gG\nvV0\nffF", "X 10 1\nX 10 1\nX 10 2\n");
+    prints("g0`\n9:\n/v\nz", "X 10 2\nX 10 1\nX 10 0\nX 10 0\n");
+    for byte in (0..=255u8).filter(|byte| *byte != b'\n') {
+        let printed = match "0123456789abcdefghijklmnopqrstuv".contains(byte as char) {
+            true => format!("W 2 0 v{}\nO 0 1\n", byte as char),
+            false => "X 10 1\n".to_string(),
+        };
+        assert_eq!(program::run(&[b'v', byte], Reading::TRUE), printed, "{byte}");
+    }
 }
 
 #[test]

@@ -23,7 +23,7 @@ fn heat(book: Vec<u8>, tape: &[u8], bounds: &[(u64, u64)]) -> Call {
     call.book = book;
     call.tape = tape.to_vec();
     call.lanes = lanes(bounds);
-    call.lengths = Lengths { rows: 8195, sets: 514, scratch: 20, out: 40, origins: 41, lines: 0 };
+    call.lengths = Lengths { rows: 16_387, sets: 514, scratch: 20, out: 40, origins: 41, lines: 0 };
     call
 }
 
@@ -138,7 +138,7 @@ fn reply_17_for_a_stretch_that_leaves_the_buffer() {
 /// One lane at fault in every way; each time one fault less.
 #[test]
 fn replies_of_a_lane_come_in_order() {
-    let tape = [vec![1; 4096], vec![16, 1]].concat();
+    let tape = [vec![1; 4096], vec![32, 1]].concat();
     let mut call = heat(one_to(&[7, 7]), &tape, &[(1, 4098)]);
     call.lengths = Lengths { scratch: 3, out: 5, origins: 5, ..call.lengths };
     lanes_get(&call, &[(0, 0, 17, 0)]);
@@ -158,6 +158,16 @@ fn replies_of_a_lane_come_in_order() {
     assert!(lent.out == [0x5a; 5] && lent.origins == [0x5a5a; 5]);
     call.lengths = Lengths { out: 6, origins: 6, ..call.lengths };
     lanes_get(&call, &[(6, 3, 0, 0)]);
+}
+
+/// Document 02, No. 6, in each lane: 31 is rewritten, and the first 32 refused at its place in the lane.
+#[test]
+fn reply_10_of_a_lane_begins_at_32() {
+    let book = draft::book(&[Rule::new(Part::any(), Part::word(&[31]), Part::any(), &[16, 31])]);
+    let call = heat(book, &[15, 31, 16, 32, 255, 31], &[(0, 3), (0, 6), (1, 3), (3, 1), (4, 2), (5, 1)]);
+    let (first, third) = ((4, 1, 0, 0), (0, 0, 10, 2));
+    lanes_get(&call, &[first, (0, 0, 10, 3), third, (0, 0, 10, 0), (0, 0, 10, 0), (2, 1, 0, 0)]);
+    assert_eq!(heated(&call).lent.out[..7], [15, 16, 31, 16, 16, 31, 0x5a]);
 }
 
 /// "a refused lane uses no room": what a longer lane cannot have a shorter one after it has. Each buffer's own rest
@@ -181,7 +191,7 @@ fn room_still_left() {
 /// Right set 1 is the one before a symbol 1, right set 0 any other.
 #[test]
 fn scratch_as_the_lanes_leave_it() {
-    let mut call = heat(one_to(&[7]), &[1, 1, 1, 1, 0, 16, 1, 1], &[(0, 4), (3, 2), (5, 1)]);
+    let mut call = heat(one_to(&[7]), &[1, 1, 1, 1, 0, 32, 1, 1], &[(0, 4), (3, 2), (5, 1)]);
     call.lengths.scratch = 6;
     assert_eq!(heated(&call).lent.scratch, [1, 0, 0, 1, 0, 0x5a]);
     call.lanes = lanes(&[(0, 4), (4, 1), (4, 0), (5, 3), (8, 1)]);
@@ -202,7 +212,7 @@ fn built(call: &Call) -> Answer {
 fn workspace_as_build_leaves_it() {
     // No lanes; no lane accepted; all accepted.
     for bounds in [vec![], vec![(0, 2), (9, 9)], vec![(0, 1), (0, 0)]] {
-        let call = heat(house::book(), &[1, 16], &bounds);
+        let call = heat(house::book(), &[1, 32], &bounds);
         let (answer, built) = (heated(&call), built(&call));
         assert_eq!(answer.reply, 0);
         assert_eq!((answer.lent.rows, answer.lent.sets), (built.lent.rows, built.lent.sets));
@@ -224,24 +234,24 @@ fn replies_of_the_whole_call() {
     let fourteen = draft::book(&[Rule::idle(Part::any(), places.mirrored())]);
     // Every lane would be refused too; with none the call is refused all the same.
     for bounds in [vec![], vec![(0, 1), (7, 7)]] {
-        let call = |book: &[u8]| heat(book.to_vec(), &[16], &bounds);
+        let call = |book: &[u8]| heat(book.to_vec(), &[32], &bounds);
         refused(&call(&[9]), 2, 0);
         refused(&call(&[house::book(), vec![4]].concat()), 8, 148);
         refused(&call(&thirteen), 13, 0);
         refused(&call(&fourteen), 14, 0);
-        for (rows, sets) in [(8191, 512), (8192, 511)] {
+        for (rows, sets) in [(8192, 512), (16_383, 512), (16_384, 511)] {
             let mut short = call(&thirteen);
             short.lengths = Lengths { rows, sets, ..short.lengths };
             refused(&short, 11, 0);
         }
     }
     for book in [vec![9], thirteen, fourteen, house::book()] {
-        let mut call = heat(book, &[16], &[(0, 0); 11]);
+        let mut call = heat(book, &[32], &[(0, 0); 11]);
         refused(&call, 16, 0);
         call.lengths.rows = 0;
         refused(&call, 16, 0);
     }
-    lanes_get(&heat(house::book(), &[16], &[(0, 0); 10]), &[(0, 0, 0, 0); 10]);
+    lanes_get(&heat(house::book(), &[32], &[(0, 0); 10]), &[(0, 0, 0, 0); 10]);
 }
 
 /// The document's words once more, by BUILD and REWRITE as they answer alone.
@@ -328,7 +338,7 @@ fn a_change_to_one_tape() {
         let at = chance.below(call.lanes.len());
         let Lane { start, length } = call.lanes[at];
         let mut changed = call.clone();
-        changed.tape[start as usize..][..length as usize].fill_with(|| chance.below(17) as u8);
+        changed.tape[start as usize..][..length as usize].fill_with(|| chance.below(33) as u8);
         let (before, after) = (heated(&call), heated(&changed));
         if before.reply != 0 {
             continue;

@@ -12,7 +12,9 @@ use second::record::FOCUS;
 use second::stretches::Stretches;
 
 const SEED: u64 = 1;
-const CALLS: u64 = 4000;
+const CALLS: u64 = 6000;
+/// Longer tapes are few and take long.
+const LONGEST: usize = 300;
 
 /// A call that comes to the stretches of its tape.
 struct Met {
@@ -22,11 +24,11 @@ struct Met {
 }
 
 impl Met {
-    /// Nothing for a call that is refused before, but for 13 and 14.
+    /// Nothing for a call that is refused before, but for 13 and 14, or whose tape is longer.
     fn of(call: Call) -> Option<Met> {
         let n = call.tape.len();
         let (rows, sets, scratch) = (call.lengths.rows, call.lengths.sets, call.lengths.scratch);
-        if n > 4096 || call.tape.iter().any(|symbol| *symbol > 15) || rows < 8192 || sets < 512 || scratch <= n {
+        if n > LONGEST || call.tape.iter().any(|symbol| *symbol > 31) || rows < 16_384 || sets < 512 || scratch <= n {
             return None;
         }
         let book = book::read(&call.book, Reading::TRUE).ok()?;

@@ -16,7 +16,7 @@ use second::tally::{Tally, WHOLE_RUN};
 fn built(rule: Rule) -> (u8, [u64; 4]) {
     let mut call = Call::new(Operation::Build);
     call.book = draft::book(&[rule]);
-    call.lengths = Lengths { rows: 8192, sets: 512, ..Lengths::default() };
+    call.lengths = Lengths { rows: 16_384, sets: 512, ..Lengths::default() };
     let answer = answer(&call, Reading::TRUE);
     (answer.reply, answer.counts)
 }
@@ -45,7 +45,7 @@ fn the_257th_set_is_refused() {
 fn tapes_of_4096_and_4097_symbols() {
     let mut call = Call::new(Operation::Rewrite);
     call.book = draft::book(&[Rule::new(Part::any(), Part::word(&[1]), Part::any(), &[2; 8])]);
-    call.lengths = Lengths { rows: 8192, sets: 512, scratch: 4098, out: 32_768, origins: 32_768, lines: 0 };
+    call.lengths = Lengths { rows: 16_384, sets: 512, scratch: 4098, out: 32_768, origins: 32_768, lines: 0 };
     call.tape = vec![1; 4096];
     let accepted = answer(&call, Reading::TRUE);
     assert_eq!((accepted.reply, accepted.counts), (0, [32_768, 4096, 0, 0]));
@@ -60,7 +60,7 @@ fn tapes_of_4096_and_4097_symbols() {
 fn longest_output() {
     let mut call = Call::new(Operation::Rewrite);
     call.book = draft::book(&[full::every_place(&[2; 8])]);
-    call.lengths = Lengths { rows: 8192, sets: 512, scratch: 4097, out: 36_872, origins: 36_872, lines: 0 };
+    call.lengths = Lengths { rows: 16_384, sets: 512, scratch: 4097, out: 36_872, origins: 36_872, lines: 0 };
     call.tape = vec![1; 4096];
     let accepted = answer(&call, Reading::TRUE);
     assert_eq!((accepted.reply, accepted.counts), (0, [36_872, 4097, 0, 0]));
@@ -75,7 +75,7 @@ fn longest_output() {
 #[test]
 fn most_candidates_are_counted() {
     let mut call = Call::new(Operation::Account);
-    call.lengths = Lengths { rows: 8192, sets: 512, scratch: 4097, lines: WORDS_A_LINE, ..Lengths::default() };
+    call.lengths = Lengths { rows: 16_384, sets: 512, scratch: 4097, lines: WORDS_A_LINE, ..Lengths::default() };
     call.tape = vec![0; 4096];
     let rules = [
         (full::every_stretch(&[]), 4096 * 4097 / 2),

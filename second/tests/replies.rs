@@ -1,5 +1,7 @@
 //! Each reply, its place, and what it leaves in the buffers.
 
+use std::slice;
+
 use second::answer::{Answer, Lent};
 use second::call::{Call, Lengths, Operation};
 use second::draft::{self, Part, Rule};
@@ -65,17 +67,41 @@ fn replies_of_fields_and_names() {
     unused[4] = 1;
     assert_eq!(after_rule(unused), (5, 16));
     for bad in
-        [rule(&[16]), state(3, 0), state(0, 4), arc(0, 0, 16, 1), arc(0, 16, 16, 1), arc(0, 3, 2, 1), arc(99, 3, 2, 1)]
+        [rule(&[32]), state(3, 0), state(0, 4), arc(0, 0, 32, 1), arc(0, 32, 32, 1), arc(0, 3, 2, 1), arc(99, 3, 2, 1)]
     {
         assert_eq!(after_rule(bad.clone()), (5, 16), "{bad:?}");
     }
-    assert_eq!(after_rule(arc(0, 0, 15, 1)), (0, 0));
+    assert_eq!(after_rule(arc(0, 0, 31, 1)), (0, 0));
     for bad in [arc(0, 0, 0, 2), arc(2, 0, 0, 0), arc(64, 0, 0, 0), arc(0, 0, 0, 255)] {
         assert_eq!(after_rule(bad.clone()), (6, 16), "{bad:?}");
     }
     assert_eq!(checked(with(&[state(1, 1), arc(0, 0, 0, 2)])), (6, 19), "two parts");
     assert_eq!(checked(with(&[rule(&[]), arc(0, 0, 0, 1)])), (6, 26), "an earlier rule");
     assert_eq!(checked(with(&[arc(0, 0, 0, 2), state(0, 0)])), (6, 16), "a state not yet given");
+}
+
+/// Document 02, No. 6: "Symbols run from 0 to 31", "5 and 10 now begin at 32": in a word, first and last; as an arc's
+/// highest and lowest.
+#[test]
+fn reply_5_begins_at_32() {
+    for symbol in 0..=255 {
+        let expected = if symbol < 32 { (0, 0) } else { (5, 16) };
+        let named = [
+            rule(&[symbol]),
+            rule(&[31, 0, 1, 2, 3, 4, 5, symbol]),
+            arc(0, 0, symbol, 1),
+            arc(1, symbol, symbol.max(31), 0),
+            arc(1, symbol, symbol, 1),
+        ];
+        for record in named {
+            assert_eq!(checked(with(slice::from_ref(&record))), expected, "{record:?}");
+        }
+    }
+    assert_eq!(checked(with(&[arc(0, 31, 16, 1)])), (5, 16), "lowest above highest");
+    // Past the word every byte but 0 is refused, a good symbol too.
+    let mut unused = rule(&[31]);
+    unused[3] = 31;
+    assert_eq!(checked(with(&[unused])), (5, 16));
 }
 
 /// A book of one rule: symbol 1 to `word`, between any contexts.
@@ -88,7 +114,7 @@ fn call(operation: Operation, book: Vec<u8>, tape: &[u8]) -> Call {
     call.fill = 0x5a;
     call.book = book;
     call.tape = tape.to_vec();
-    call.lengths = Lengths { rows: 8195, sets: 514, scratch: tape.len() + 3, ..Lengths::default() };
+    call.lengths = Lengths { rows: 16_387, sets: 514, scratch: tape.len() + 3, ..Lengths::default() };
     match operation {
         Operation::Rewrite => (call.lengths.out, call.lengths.origins) = (9, 9),
         _ => call.lengths.lines = 9,
@@ -106,15 +132,15 @@ fn refused_untouched(call: &Call, reply: u8, place: u64) {
 #[test]
 fn replies_9_to_12_change_nothing_and_come_in_order() {
     for operation in [Operation::Rewrite, Operation::Account] {
-        let mut faulty = call(operation, book(&[]), &[vec![0; 4096], vec![16]].concat());
-        faulty.lengths = Lengths { rows: 8191, scratch: 4097, ..faulty.lengths };
+        let mut faulty = call(operation, book(&[]), &[vec![0; 4096], vec![32]].concat());
+        faulty.lengths = Lengths { rows: 16_383, scratch: 4097, ..faulty.lengths };
         refused_untouched(&faulty, 9, 0);
-        faulty.tape = vec![0, 1, 16, 99];
+        faulty.tape = vec![0, 31, 32, 99];
         faulty.lengths.scratch = 4;
         refused_untouched(&faulty, 10, 2);
         faulty.tape = vec![0, 1, 2, 3];
         refused_untouched(&faulty, 11, 0);
-        faulty.lengths = Lengths { rows: 8192, sets: 511, ..faulty.lengths };
+        faulty.lengths = Lengths { rows: 16_384, sets: 511, ..faulty.lengths };
         refused_untouched(&faulty, 11, 0);
         faulty.lengths.sets = 512;
         refused_untouched(&faulty, 12, 0);
@@ -126,10 +152,38 @@ fn replies_9_to_12_change_nothing_and_come_in_order() {
     refused_untouched(&building, 11, 0);
 }
 
+/// Document 02, No. 6: "10 .. at 32". The third symbol is the first that can be bad; the fourth is always.
+#[test]
+fn reply_10_begins_at_32() {
+    for operation in [Operation::Rewrite, Operation::Account] {
+        for symbol in 0..=255 {
+            let faulty = call(operation, book(&[]), &[31, 16, symbol, 255]);
+            refused_untouched(&faulty, 10, if symbol < 32 { 3 } else { 2 });
+            let answer = answer(&call(operation, book(&[]), &[31, 16, symbol]), Reading::TRUE);
+            let (reply, place) = if symbol < 32 { (0, 0) } else { (10, 2) };
+            assert_eq!((answer.reply, answer.place), (reply, place), "{symbol}");
+        }
+    }
+}
+
+/// Document 02, No. 6: "11 at the new length".
+#[test]
+fn reply_11_begins_below_16384_bytes() {
+    for operation in [Operation::Build, Operation::Rewrite, Operation::Account] {
+        let mut building = call(operation, book(&[]), &[]);
+        for rows in [0, 8191, 8192, 8193, 16_383] {
+            building.lengths.rows = rows;
+            refused_untouched(&building, 11, 0);
+        }
+        building.lengths.rows = 16_384;
+        assert_eq!(answer(&building, Reading::TRUE).reply, 0);
+    }
+}
+
 /// The workspace parts are 0, and the three rows and two sets past them keep their values, as all the rest does.
 fn workspace_is_cleared(call: &Call, answer: &Answer) {
     let mut expected = Lent::before(call);
-    expected.rows[..8192].fill(0);
+    expected.rows[..16_384].fill(0);
     expected.sets[..512].fill(0);
     assert_eq!(answer.lent, expected);
 }
@@ -144,7 +198,7 @@ fn replies_13_and_14_clear_the_workspace() {
     ];
     for (reply, rule) in books {
         for operation in [Operation::Build, Operation::Rewrite, Operation::Account] {
-            let mut call = call(operation, draft::book(std::slice::from_ref(&rule)), &[1, 2]);
+            let mut call = call(operation, draft::book(slice::from_ref(&rule)), &[1, 2]);
             if operation == Operation::Build {
                 call.tape.clear();
                 call.lengths.scratch = 0;
@@ -228,10 +282,52 @@ fn workspace_worked_by_hand() {
     // Left: state 0 always. Right: 3 always; 2 because the right language holds everywhere; 1 if a 1 follows.
     assert_eq!(answer.lent.sets[0], 0b0001);
     assert_eq!(answer.lent.sets[256..259], [0b1100, 0b1110, 0]);
-    assert_eq!(answer.lent.rows[..8192].iter().filter(|number| **number != 0).count(), 2);
-    assert_eq!(answer.lent.rows[4096 + 1], 1);
-    assert_eq!(answer.lent.rows[4096 + 16 + 1], 1);
+    assert_eq!(answer.lent.rows[..16_384].iter().filter(|number| **number != 0).count(), 2);
+    assert_eq!(answer.lent.rows[8192 + 1], 1);
+    assert_eq!(answer.lent.rows[8192 + 32 + 1], 1);
     assert_eq!(answer.lent.scratch, [1, 0, 1, 0, 0x5a, 0x5a]);
-    assert_eq!(answer.lent.rows[8192..], [0x5a; 3]);
+    assert_eq!(answer.lent.rows[16_384..], [0x5a; 3]);
     assert_eq!(answer.lent.sets[512..], [0x5a5a_5a5a_5a5a_5a5a; 2]);
+}
+
+/// The numbers of a side with their sets, and of each row the entries that are not 0.
+fn side_is(answer: &Answer, first: usize, sets: &[u64], rows: &[&[(usize, u8)]]) {
+    assert_eq!(answer.lent.sets[first..first + sets.len()], *sets);
+    for (number, entries) in rows.iter().enumerate() {
+        let mut row = [0; 32];
+        entries.iter().for_each(|(symbol, next)| row[*symbol] = *next);
+        assert_eq!(answer.lent.rows[32 * (first + number)..][..32], row, "row {number}");
+    }
+    let past = 32 * (first + rows.len())..32 * (first + 256);
+    assert!(answer.lent.rows[past].iter().all(|entry| *entry == 0));
+}
+
+/// Document 02, No. 6: "Symbols run from 0 to 31, also in numbering." Left states 0 to 3: from the start 0 a 15 leads to
+/// 3, a 16 to 2, and 29 to 31 to 1, from where a 31 leads to 2. Right states 4 to 6: an 18 leads from 5, a 1 from 6 to
+/// the accept 4.
+#[test]
+fn numbering_worked_by_hand() {
+    let states = [(0, 1), (0, 2), (0, 2), (0, 2), (2, 2), (2, 1), (2, 1)].map(|(part, flags)| state(part, flags));
+    let arcs = [
+        arc(0, 29, 31, 1),
+        arc(0, 16, 16, 2),
+        arc(0, 15, 15, 3),
+        arc(1, 31, 31, 2),
+        arc(5, 18, 18, 4),
+        arc(6, 1, 1, 4),
+    ];
+    let records = [vec![rule(&[])], states.to_vec(), arcs.to_vec(), vec![end()]].concat();
+    let built = answer(&call(Operation::Build, records.concat(), &[]), Reading::TRUE);
+    assert_eq!((built.reply, built.counts), (0, [5, 3, 0, 0]));
+    // {0}, then by 15 {0, 3}, by 16 {0, 2}, by 29 {0, 1}; from there by 31 {0, 1, 2}.
+    let (few, more) = ([(15, 1), (16, 2), (29, 3), (30, 3), (31, 3)], [(15, 1), (16, 2), (29, 3), (30, 3), (31, 4)]);
+    side_is(&built, 0, &[0b0001, 0b1001, 0b0101, 0b0011, 0b0111, 0], &[&few, &few, &few, &more, &more]);
+    // {4}, then before a 1 {4, 6}, before an 18 {4, 5}.
+    let right = [(1, 1), (18, 2)];
+    side_is(&built, 256, &[0b001_0000, 0b101_0000, 0b011_0000, 0], &[&right, &right, &right]);
+    assert_eq!(built.lent.rows[16_384..], [0x5a; 3]);
+    // A tape of 1, 18 and 31: before the 1, before the 18, before the 31, at the end.
+    let mut rewriting = call(Operation::Rewrite, records.concat(), &[1, 18, 31]);
+    rewriting.lengths.scratch = 4;
+    assert_eq!(answer(&rewriting, Reading::TRUE).lent.scratch, [1, 2, 0, 0]);
 }

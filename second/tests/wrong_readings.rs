@@ -1,7 +1,6 @@
 //! Every wrong reading, put into the reference alone, is caught by the fixed-seed run: a check that cannot fail is a
-//! defect. No two of an operation are the same.
+//! defect. No two of the operations are the same, and no two of the program.
 
-use second::answer::Answer;
 use second::call::Call;
 use second::generate::calls::call;
 use second::generate::lines::inputs;
@@ -14,9 +13,29 @@ use second::tally::WHOLE_RUN;
 const SEED: u64 = 1;
 const TAPES: usize = 1000;
 
+/// The lines of the program's large input that are put to it at a time.
+const LINES: usize = 10;
+
+/// How many calls are taken together, and how many bytes of book and tape make a small one.
+const TOGETHER: u64 = 2000;
+const SMALL: usize = 250;
+
 /// The wrong readings that concern the program alone.
-const OF_PROGRAM: [Wrong; 13] = [
+const OF_PROGRAM: [Wrong; 26] = [
+    Wrong::OtherIsSixteen,
+    Wrong::DigitsToF,
+    Wrong::DigitsFolded,
+    Wrong::DigitsUnlike,
     Wrong::CapitalsRead,
+    Wrong::NewCapitalsRead,
+    Wrong::AfterNineRead,
+    Wrong::BeforeARead,
+    Wrong::PrintedCapital,
+    Wrong::NewPrintedCapital,
+    Wrong::PrintedInHex,
+    Wrong::PrintedFolded,
+    Wrong::PrintedLate,
+    Wrong::PrintedUnlike,
     Wrong::ReturnDropped,
     Wrong::OtherDropped,
     Wrong::EmptyLineSkipped,
@@ -31,24 +50,51 @@ const OF_PROGRAM: [Wrong; 13] = [
     Wrong::RefusalEndsRun,
 ];
 
-/// Readings that answered every call so far alike. `None` is the true one, and stands before the others.
+/// Readings that gave the same for everything so far. `None` is the true one, and stands before the others.
 type Alike = Vec<Option<Wrong>>;
+
+/// The true reading and these, before anything is put to them.
+fn all_alike(wrong: impl Iterator<Item = Wrong>) -> Vec<Alike> {
+    vec![[None].into_iter().chain(wrong.map(Some)).collect()]
+}
+
+/// Those that are still alike after what each reading gives here; `what` names it.
+fn told_apart<T: PartialEq>(at_large: Vec<Alike>, what: &str, gives: impl Fn(Reading) -> T) -> Vec<Alike> {
+    let mut still: Vec<Alike> = Vec::new();
+    for alike in at_large {
+        let mut given: Vec<(T, Alike)> = Vec::new();
+        for wrong in &alike {
+            let gives = gives(wrong.map_or(Reading::TRUE, Reading::with));
+            match given.iter_mut().find(|(other, _)| *other == gives) {
+                Some((_, alike)) => alike.push(*wrong),
+                None => given.push((gives, vec![*wrong])),
+            }
+        }
+        for caught in given[1..].iter().flat_map(|(_, alike)| alike).flatten().filter(|_| alike[0].is_none()) {
+            println!("{:26} caught at {what}", caught.name());
+        }
+        still.extend(given.into_iter().map(|(_, alike)| alike).filter(|alike| alike.len() > 1));
+    }
+    still
+}
+
+/// All calls of the run; of every so many those first that are small, since a large one takes long for each reading that
+/// is still alike.
+fn calls_small_first() -> impl Iterator<Item = (u64, Call)> {
+    let together = |first: u64| {
+        let calls = (first..first + TOGETHER).map(|number| (number, call(SEED, number)));
+        let (small, large): (Vec<_>, Vec<_>) = calls.partition(|(_, call)| call.book.len() + call.tape.len() <= SMALL);
+        small.into_iter().chain(large)
+    };
+    (0..WHOLE_RUN).step_by(TOGETHER as usize).flat_map(together)
+}
 
 /// Some call of the run tells each wrong reading from the true one, and from each other.
 #[test]
 fn each_wrong_reading_of_an_operation_is_caught() {
-    let wrong = Wrong::ALL.iter().copied().filter(|wrong| !OF_PROGRAM.contains(wrong));
-    let mut at_large: Vec<Alike> = vec![[None].into_iter().chain(wrong.map(Some)).collect()];
-    for number in 0..WHOLE_RUN {
-        let call = call(SEED, number);
-        let told_apart = at_large.iter().flat_map(|alike| {
-            let told_apart = told_apart(alike, &call);
-            for caught in told_apart[1..].iter().flatten().flatten().filter(|_| alike[0].is_none()) {
-                println!("{:26} caught at call {number}", caught.name());
-            }
-            told_apart
-        });
-        at_large = told_apart.filter(|alike| alike.len() > 1).collect();
+    let mut at_large = all_alike(Wrong::ALL.iter().copied().filter(|wrong| !OF_PROGRAM.contains(wrong)));
+    for (number, call) in calls_small_first() {
+        at_large = told_apart(at_large, &format!("call {number}"), |reading| answer(&call, reading));
         if at_large.is_empty() {
             return;
         }
@@ -56,26 +102,18 @@ fn each_wrong_reading_of_an_operation_is_caught() {
     panic!("never told apart: {at_large:?}");
 }
 
-fn told_apart(alike: &Alike, call: &Call) -> Vec<Alike> {
-    let mut answers: Vec<(Answer, Alike)> = Vec::new();
-    for wrong in alike {
-        let answer = answer(call, wrong.map_or(Reading::TRUE, Reading::with));
-        match answers.iter_mut().find(|(other, _)| *other == answer) {
-            Some((_, alike)) => alike.push(*wrong),
-            None => answers.push((answer, vec![*wrong])),
-        }
-    }
-    answers.into_iter().map(|(_, alike)| alike).collect()
-}
-
+/// The same for the program. Its large input is put to it by a few lines at a time; the small ones end in every way.
 #[test]
 fn each_wrong_reading_of_the_program_is_caught() {
-    let inputs = inputs(SEED, TAPES);
-    for wrong in OF_PROGRAM {
-        let caught =
-            inputs.iter().any(|input| program::run(input, Reading::TRUE) != program::run(input, Reading::with(wrong)));
-        assert!(caught, "never caught: {}", wrong.name());
+    let mut at_large = all_alike(OF_PROGRAM.into_iter());
+    let mut inputs = inputs(SEED, TAPES);
+    let large = inputs.pop().expect("a large input");
+    let lines: Vec<&[u8]> = large.split(|byte| *byte == b'\n').collect();
+    inputs.extend(lines.chunks(LINES).map(|lines| lines.join(&b'\n')));
+    for (number, input) in inputs.iter().enumerate() {
+        at_large = told_apart(at_large, &format!("input {number}"), |reading| program::run(input, reading));
     }
+    assert!(at_large.is_empty(), "never told apart: {at_large:?}");
 }
 
 #[test]

@@ -11,12 +11,13 @@ use crate::reading::Reading;
 use crate::record::LONGEST_WORD;
 use crate::stretches::Stretches;
 use crate::workspace;
+use crate::wrong_symbol::OLD_ROW_BYTES;
 
 /// Lengths for a call whose book and tape are chosen.
 pub fn lengths(call: &Call, chance: &mut Chance) -> Lengths {
     let mut lengths = Lengths::default();
     if !matches!(call.operation, Operation::Check | Operation::Show) {
-        lengths.rows = mostly_enough(workspace::ROW_BYTES, chance);
+        lengths.rows = rows(chance);
         lengths.sets = mostly_enough(workspace::SETS, chance);
     }
     if matches!(call.operation, Operation::Rewrite | Operation::Account) {
@@ -33,6 +34,14 @@ pub fn lengths(call: &Call, chance: &mut Chance) -> Lengths {
         (lengths.out, lengths.origins) = rooms_of_lanes(call, chance);
     }
     lengths
+}
+
+/// Bytes for rows that are mostly enough; now and then about as many as were enough before.
+fn rows(chance: &mut Chance) -> usize {
+    match chance.one_in(30) {
+        true => OLD_ROW_BYTES - 1 + chance.below(3),
+        false => mostly_enough(workspace::ROW_BYTES, chance),
+    }
 }
 
 /// Symbols or words that an accepted call would need, so that the lengths tried lie around it.

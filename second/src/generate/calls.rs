@@ -30,6 +30,8 @@ fn ordinary_call(chance: &mut Chance) -> Call {
     ]);
     let alphabet = Alphabet::of(chance);
     let rules = rules::rules(&alphabet, chance);
+    // So that an old book meets a new tape, and a new book an old one.
+    let of_tape = if chance.one_in(6) { Alphabet::of(chance) } else { alphabet };
     let records = draft::mixed_records(&rules, chance);
     let damaged = match operation {
         Operation::Check => chance.below(10) < 8,
@@ -44,7 +46,7 @@ fn ordinary_call(chance: &mut Chance) -> Call {
     }
     call.book = if damaged { damage::damaged(records, chance) } else { records.concat() };
     if matches!(operation, Operation::Rewrite | Operation::Account) {
-        call.tape = tapes::tape(&rules, &alphabet, chance);
+        call.tape = tapes::tape(&rules, &of_tape, chance);
         if chance.one_in(14) {
             tapes::spoil(&mut call.tape, chance);
         }
@@ -53,7 +55,7 @@ fn ordinary_call(chance: &mut Chance) -> Call {
         }
     }
     if operation == Operation::Heat {
-        (call.tape, call.lanes) = heats::heat(heats::count(chance), &rules, &alphabet, chance);
+        (call.tape, call.lanes) = heats::heat(heats::count(chance), &rules, &of_tape, chance);
     }
     call.lengths = buffers::lengths(&call, chance);
     call

@@ -1,8 +1,12 @@
 //! Damaged books: every reply from 1 to 6 and 8, several faults in one record, truncation and garbage.
 
+use super::alphabet::EDGES;
 use crate::book::{HIGHEST_SYMBOL, SYMBOLS};
 use crate::chance::Chance;
 use crate::record::{self, ARC, BOTH, END, FOCUS, RULE, STATE};
+
+/// Bytes below this are symbols, and a few are just past them.
+const SMALL: usize = SYMBOLS + 4;
 
 /// A book made from valid records by one to three damages.
 pub fn damaged(mut records: Vec<Vec<u8>>, chance: &mut Chance) -> Vec<u8> {
@@ -27,7 +31,7 @@ fn damage(records: &mut Vec<Vec<u8>>, chance: &mut Chance) {
         return;
     }
     let at = chance.below(records.len());
-    match chance.below(12) {
+    match chance.below(13) {
         0 => drop(records.pop()),
         1 => records[at][0] = unknown_kind(chance),
         2 => records.insert(0, faulty(chance)),
@@ -40,6 +44,7 @@ fn damage(records: &mut Vec<Vec<u8>>, chance: &mut Chance) {
         8 => drop(records.remove(at)),
         9 => records.insert(at, records[chance.below(records.len())].clone()),
         10 => records[at].truncate(1),
+        11 => spoil_symbol(records, chance),
         _ => spoil_bytes(records, chance),
     }
 }
@@ -87,7 +92,8 @@ fn near_state(chance: &mut Chance) -> u8 {
 
 fn near_symbol(chance: &mut Chance) -> u8 {
     let good = chance.below(SYMBOLS) as u8;
-    chance.weighted(&[(8, good), (2, HIGHEST_SYMBOL), (2, HIGHEST_SYMBOL + 1), (1, 255)])
+    let edge = chance.pick(&EDGES);
+    chance.weighted(&[(7, good), (3, edge), (2, HIGHEST_SYMBOL + 1), (1, 255)])
 }
 
 fn faulty_rule(chance: &mut Chance) -> Vec<u8> {
@@ -98,7 +104,7 @@ fn faulty_rule(chance: &mut Chance) -> Vec<u8> {
     rule[2..2 + used].iter_mut().for_each(|symbol| *symbol = chance.below(SYMBOLS) as u8);
     match chance.below(4) {
         0 => rule[2 + chance.below(8)] = 1,
-        1 => rule[2 + chance.below(used.max(1))] = HIGHEST_SYMBOL + 1,
+        1 => rule[2 + chance.below(used.max(1))] = edge_or_past(chance),
         2 => rule[9] = chance.byte(),
         _ => {}
     }
@@ -109,9 +115,30 @@ fn faulty_rule(chance: &mut Chance) -> Vec<u8> {
 fn spoil_field(record: &mut [u8], chance: &mut Chance) {
     if record.len() > 1 {
         let at = chance.between(1, record.len() - 1);
-        let (highest, above) = (HIGHEST_SYMBOL, HIGHEST_SYMBOL + 1);
-        record[at] =
-            chance.weighted(&[(2, 1), (2, 3), (1, 4), (1, 8), (2, 9), (1, highest), (4, above), (1, 64), (1, 255)]);
+        let symbol = edge_or_past(chance);
+        record[at] = chance.weighted(&[(2, 1), (2, 3), (1, 4), (1, 8), (2, 9), (7, symbol), (1, 64), (1, 255)]);
+    }
+}
+
+/// 15, 16, 31, 32 or 33; the first that is refused, 32, more often.
+fn edge_or_past(chance: &mut Chance) -> u8 {
+    let edge = chance.pick(&EDGES);
+    chance.weighted(&[(3, edge), (4, HIGHEST_SYMBOL + 1), (1, HIGHEST_SYMBOL + 2)])
+}
+
+/// A symbol of some word or of some arc of a book made one of these.
+pub fn spoil_symbol(records: &mut [Vec<u8>], chance: &mut Chance) {
+    let kind = chance.pick(&[RULE, ARC]);
+    let symbols = |record: &[u8]| match record {
+        [RULE, length, symbols @ ..] if kind == RULE => 2..2 + symbols.len().min(*length as usize),
+        [ARC, _, _, _, _] if kind == ARC => 2..4,
+        _ => 0..0,
+    };
+    let fields = |at: usize| symbols(&records[at]).map(move |field| (at, field));
+    let fields: Vec<(usize, usize)> = (0..records.len()).flat_map(fields).collect();
+    if !fields.is_empty() {
+        let (at, field) = chance.pick(&fields);
+        records[at][field] = edge_or_past(chance);
     }
 }
 
@@ -134,7 +161,7 @@ fn spoil_bytes(records: &mut [Vec<u8>], chance: &mut Chance) {
         let at = chance.below(records.len());
         let byte = chance.below(records[at].len().max(1));
         if let Some(byte) = records[at].get_mut(byte) {
-            *byte = if chance.one_in(2) { chance.byte() } else { chance.below(20) as u8 };
+            *byte = if chance.one_in(2) { chance.byte() } else { chance.below(SMALL) as u8 };
         }
     }
 }
@@ -149,7 +176,7 @@ fn cut_at_once(chance: &mut Chance) -> Vec<u8> {
 /// Bytes without sense; small ones keep the reader going longer.
 fn garbage(chance: &mut Chance) -> Vec<u8> {
     let length = chance.below(60);
-    let bound = chance.pick(&[3, 5, 20, 256]);
+    let bound = chance.pick(&[3, 5, SMALL, 256]);
     let mut bytes: Vec<u8> = (0..length).map(|_| chance.below(bound) as u8).collect();
     if chance.one_in(2) {
         bytes.splice(0..0, record::rule(&[]));

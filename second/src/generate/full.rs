@@ -7,6 +7,7 @@ use crate::book::{HIGHEST_SYMBOL, MOST_ARCS, MOST_RULES, MOST_STATES};
 use crate::chance::Chance;
 use crate::draft::{self, Part, Rule};
 use crate::record::{self, ACCEPT, ARC, NEITHER, RULE, START, STATE};
+use crate::wrong_symbol::HIGHEST_OLD;
 
 /// The records of a book with exactly the wanted number of rules, states or arcs.
 pub fn filled(kind: u8, wanted: usize, chance: &mut Chance) -> Vec<Vec<u8>> {
@@ -87,6 +88,13 @@ pub fn places_before(places: usize) -> Part {
     for at in 1..places {
         part.arc(at, 0, HIGHEST_SYMBOL, at + 1);
     }
+    part
+}
+
+/// The same part in an old book, with arcs up to 15 and no further.
+pub fn old(mut part: Part) -> Part {
+    part.arcs.retain(|arc| arc.lowest <= HIGHEST_OLD);
+    part.arcs.iter_mut().for_each(|arc| arc.highest = arc.highest.min(HIGHEST_OLD));
     part
 }
 

@@ -1,7 +1,8 @@
 //! Sizes at every limit and one past it.
 
-use super::alphabet::Alphabet;
+use super::alphabet::{Alphabet, EDGES};
 use super::buffers::{most_inserted, most_replaced};
+use super::damage;
 use super::full;
 use super::heats;
 use super::tapes;
@@ -13,7 +14,7 @@ use crate::chance::Chance;
 use crate::draft::{self, Part, Rule};
 use crate::heat::MOST_LANES;
 use crate::house;
-use crate::record::{self, ARC, RULE, STATE};
+use crate::record::{self, ARC, LONGEST_WORD, RULE, STATE};
 use crate::workspace;
 
 /// One way to stand at a limit: its name, how often, and the call.
@@ -26,6 +27,7 @@ pub const LIMITS: &[Limit] = &[
     ("256 or 257 left sets", 80, left_sets),
     ("256 or 257 right sets", 80, right_sets),
     ("eight or nine places", 220, places),
+    ("symbol 31 or 32", 80, last_symbols),
     ("4,096 or 4,097 symbols", 60, long_tape),
     ("longest book sent", 30, long_book),
     ("longest output", 40, long_output),
@@ -123,14 +125,30 @@ fn right_sets(chance: &mut Chance) -> Call {
 
 fn places(chance: &mut Chance) -> Call {
     let mut part = || chance.weighted(&[(1, Part::any()), (2, full::places_before(8)), (3, full::places_before(9))]);
-    let many = Rule::idle(part(), part().mirrored());
-    let tape = tapes::tape(&[], &Alphabet::all(), chance);
-    let mut call = call_with(draft::book(&[many]), tape, chance);
+    let (left, right) = (part(), part().mirrored());
+    let (left, right) = if chance.one_in(3) { (full::old(left), full::old(right)) } else { (left, right) };
+    let tape = tapes::tape(&[], &Alphabet::of(chance), chance);
+    let mut call = call_with(draft::book(&[Rule::idle(left, right)]), tape, chance);
     // Several refusals at once, so that their order shows.
     if chance.one_in(2) {
         call.lengths.scratch = call.lengths.scratch.min(call.tape.len());
     }
     call
+}
+
+/// Arcs, words and tapes of 15, 16 and 31 alone; every other time a symbol of the book or of the tape spoiled.
+fn last_symbols(chance: &mut Chance) -> Call {
+    let mut edges = |most: usize| (0..chance.below(most + 1)).map(|_| chance.pick(&EDGES)).collect::<Vec<u8>>();
+    let (left, right) = (Part::word(&edges(1)), Part::word(&edges(2)));
+    let focus = Part::word(&edges(2)).with_arc(0, HIGHEST_SYMBOL, HIGHEST_SYMBOL, 0);
+    let mut records = draft::records(&[Rule::new(left, focus, right, &edges(LONGEST_WORD))]);
+    let mut tape = edges(20);
+    match chance.below(4) {
+        0 => damage::spoil_symbol(&mut records, chance),
+        1 => tapes::spoil(&mut tape, chance),
+        _ => {}
+    }
+    call_with(records.concat(), tape, chance)
 }
 
 fn repeated(pattern: &[u8], length: usize) -> Vec<u8> {

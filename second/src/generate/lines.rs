@@ -1,8 +1,10 @@
 //! Inputs for the program: lines at random, and the ways an input can end.
 
+use super::alphabet::Alphabet;
 use crate::account::WORDS_A_LINE;
 use crate::admission::LONGEST_TAPE;
 use crate::chance::Chance;
+use crate::digits;
 use crate::program::ACCOUNT_WORDS;
 
 /// The lines that the program's account has room for: 1,000.
@@ -11,7 +13,7 @@ const ACCOUNT_LINES: usize = ACCOUNT_WORDS / WORDS_A_LINE;
 /// Inputs with `count` tapes in all: small ones for the ways an input can end, then one with all the rest.
 pub fn inputs(seed: u64, count: usize) -> Vec<Vec<u8>> {
     let small: [(&str, usize); 8] =
-        [("", 0), ("\n", 1), ("5", 1), ("12400", 1), ("2400\n", 1), ("\n\n", 2), ("2\n\n", 2), ("g", 1)];
+        [("", 0), ("\n", 1), ("5", 1), ("12400", 1), ("2400\n", 1), ("\n\n", 2), ("2\n\n", 2), ("w", 1)];
     let mut inputs = Vec::new();
     let mut left = count;
     for (input, tapes) in small.into_iter().filter(|_| count >= 20) {
@@ -44,7 +46,7 @@ fn line(chance: &mut Chance) -> Vec<u8> {
         3 => repeated(b"2334", chance.between(LONGEST_TAPE - 1, LONGEST_TAPE + 2)),
         _ => repeated(b"0", chance.between(LONGEST_TAPE, 20 * LONGEST_TAPE)),
     };
-    if chance.one_in(12) && !line.is_empty() {
+    if chance.one_in(8) && !line.is_empty() {
         let at = chance.below(line.len());
         line[at] = other(chance);
     }
@@ -60,8 +62,8 @@ fn touches(chance: &mut Chance) -> Vec<u8> {
     let mut line = Vec::new();
     for _ in 0..chance.weighted(&[(1, 0), (3, 2), (6, 6), (4, 15), (1, 60)]) {
         line.extend(chance.pick(&pieces));
-        if chance.one_in(15) {
-            line.push(chance.pick(b"0123456789abcdef"));
+        if chance.one_in(12) {
+            line.push(digit(chance));
         }
     }
     line
@@ -71,11 +73,17 @@ fn repeated(pattern: &[u8], length: usize) -> Vec<u8> {
     pattern.iter().copied().cycle().take(length).collect()
 }
 
-/// Any byte but a newline and the hex digits.
+/// The digit of any symbol, one at an edge more often.
+fn digit(chance: &mut Chance) -> u8 {
+    digits::of(Alphabet::all().any(chance)).expect("a symbol") as u8
+}
+
+/// Any byte but a newline and the digits; often a character just beyond these, or a capital.
 fn other(chance: &mut Chance) -> u8 {
     loop {
-        let byte = if chance.one_in(2) { chance.pick(b"ABCDEFgG/: \r\t\0-") } else { chance.byte() };
-        if byte != b'\n' && !byte.is_ascii_digit() && !(b'a'..=b'f').contains(&byte) {
+        let beyond = chance.pick(b"/:`wxz@[AFGVW \r\t\0-");
+        let byte = if chance.one_in(3) { chance.byte() } else { beyond };
+        if byte != b'\n' && digits::read(byte).is_none() {
             return byte;
         }
     }

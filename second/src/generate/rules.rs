@@ -74,6 +74,5 @@ fn like_an_earlier(rules: &[Rule], empty: EmptyFoci, alphabet: &Alphabet, chance
 
 pub fn word(alphabet: &Alphabet, chance: &mut Chance) -> Vec<u8> {
     let length = chance.weighted(&[(4, 0), (6, 1), (4, 2), (2, 3), (1, 4), (1, 5), (1, 6), (1, 7), (1, 8)]);
-    let any = Alphabet::all();
-    (0..length).map(|_| if chance.one_in(3) { any.symbol(chance) } else { alphabet.symbol(chance) }).collect()
+    (0..length).map(|_| if chance.one_in(3) { alphabet.any(chance) } else { alphabet.symbol(chance) }).collect()
 }

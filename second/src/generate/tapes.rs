@@ -17,7 +17,7 @@ pub fn tape(rules: &[Rule], alphabet: &Alphabet, chance: &mut Chance) -> Vec<u8>
             rules[rule].parts[first..].iter().for_each(|part| walk(part, &mut tape, chance));
         }
         if !led || chance.one_in(3) {
-            tape.push(if chance.one_in(20) { Alphabet::all().symbol(chance) } else { alphabet.symbol(chance) });
+            tape.push(if chance.one_in(15) { alphabet.any(chance) } else { alphabet.symbol(chance) });
         }
     }
     tape.truncate(length);
@@ -26,7 +26,7 @@ pub fn tape(rules: &[Rule], alphabet: &Alphabet, chance: &mut Chance) -> Vec<u8>
 
 fn length(chance: &mut Chance) -> usize {
     let (shortest, longest) =
-        chance.weighted(&[(3, (0, 0)), (10, (1, 4)), (30, (5, 12)), (12, (13, 30)), (3, (31, 80)), (1, (81, 300))]);
+        chance.weighted(&[(5, (0, 0)), (10, (1, 4)), (30, (5, 12)), (12, (13, 30)), (3, (31, 80)), (1, (81, 300))]);
     chance.between(shortest, longest)
 }
 

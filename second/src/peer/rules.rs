@@ -1,7 +1,7 @@
 //! Rules that a peer can read too, with all the outputs that it may give.
 
 use super::expression::{letter, Expression, LETTERS};
-use crate::book::Book;
+use crate::book::{Book, SYMBOLS};
 use crate::chance::Chance;
 use crate::draft::{Part, Rule};
 use crate::reading::Reading;
@@ -24,8 +24,8 @@ pub struct Manner {
     pub empty_word: &'static str,
 }
 
-/// From here symbols are written as capital letters.
-const FIRST_CAPITAL: u8 = 8;
+/// From here symbols are written as capital letters: half of them.
+const FIRST_CAPITAL: u8 = SYMBOLS as u8 / 2;
 
 /// A symbol of a tape or of a word.
 pub fn written(symbol: u8) -> char {
