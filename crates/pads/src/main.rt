@@ -8,6 +8,7 @@ mod print; // print.rt: the lines printed
 
 use book::SYMBOLS;
 use libc::STDIN_FILENO;
+use print::LETTERS;
 use rewriter::LONGEST_TAPE;
 
 // The bytes of one read, and the bytes printed at once.
@@ -24,9 +25,7 @@ const OUT: usize = LONGEST_TAPE;
 // "It gives the account 6,000 words."
 const ACCOUNT: usize = 6000;
 
-// The symbol of the first letter, and the last letter that is a digit.
-const LETTERS: u8 = 10;
-
+// The last letter that is a digit.
 const LAST_LETTER: u8 = b'a' + (SYMBOLS - LETTERS - 1);
 
 // What a chunk gave from a place on: the next place, the symbols held, and whether a line ended.

@@ -7,13 +7,16 @@ ghost use Rattle.pads.specs.Digits.{digitOf};
 use book::LAST_SYMBOL;
 use rewriter::LINE_WORDS;
 
+// The symbol of the first letter.
+pub(crate) const LETTERS: u8 = 10;
+
 // The character of a symbol.
 fn digit(s: u8) -> u8
     ensures { λ r. ⌜ r ≡ digitOf s ⌝ }
 {
     match s {
         0..=9 => s + b'0',
-        super::LETTERS..=LAST_SYMBOL => s + (b'a' - super::LETTERS),
+        LETTERS..=LAST_SYMBOL => s + (b'a' - LETTERS),
         _ => b'?',
     }
 }
