@@ -13,7 +13,7 @@ use Rattle.book.specs.Format.{byte, recordSize, symbolsFit, ruleReply, a
 use Rattle.book.specs.Reading.{Arc, Book, empty, scanOf, wordAt, arcAt, withRecord}
 use Rattle.book.specs.Reading.{Read, refused, accepted, ended, readFrom, readBook, answer, checkDef, bookIn, bookOf}
 use Rattle.book.specs.Language.{any}
-use Rattle.book.specs.Before.{high, highBook, onNoArc, replyBelow, readBelow, readAllBelow, checkBelow, bookBelow}
+use Rattle.book.specs.Before.{high, highArc, highBook, onNoArc, replyBelow, readBelow, readAllBelow, checkBelow, bookBelow}
 use Rattle.book.specs.declared.Scan.{Scan}
 use Rattle.book.proofs.Passed.{kind-rel}
 use Rattle.book.proofs.Progress.{read-refused, read-end, read-more}
@@ -52,10 +52,10 @@ pub no-arc : (n : ℕ) (b : Book) (a : ℕ) → highBook n b ≡ false → n ≤
 unfolding highBook onNoArc
 no-arc n b a e h = ap not (shut (b .arcs) (or-none (any (high n) (b .words)) _ e .1))
   where
-    shut : (arcs : List Arc) → any (λ (x : Arc). leb n (x .high)) arcs ≡ false → any (λ (x : Arc). leb (x .low) a && leb a (x .high)) arcs ≡ false
+    shut : (arcs : List Arc) → any (highArc n) arcs ≡ false → any (λ (x : Arc). leb (x .low) a && leb a (x .high)) arcs ≡ false
     shut [] z = refl
     shut (x ∷ arcs) z =
-        let y = or-none (leb n (x .high)) (any (λ (x : Arc). leb n (x .high)) arcs) z in
+        let y = or-none (highArc n x) (any (highArc n) arcs) z in
         let low = leb-false n (x .high) (y .0) in
         ap₂ _||_ (ap (λ (c : Bool). leb (x .low) a && c) (lt-leb a (x .high) (omega arith)) ∙ and-false (leb (x .low) a)) (shut arcs (y .1))
 
@@ -66,12 +66,12 @@ module _ (n : ℕ) (s : List ℕ) (at : ℕ) where
   unfolding highBook withRecord
   high-with b =
       kind-rel (λ (x y : Book). highBook n x ≡ (highBook n b || highBook n y)) (byte s at) _ _ _ _ _ _ _ _
-      (λ _. ap (λ (c : Bool). c || any (λ (x : Arc). leb n (x .high)) (b .arcs)) (any-snoc (high n) (b .words) (wordAt s at))
-      ∙ of-word (any (high n) (b .words)) (any (λ (x : Arc). leb n (x .high)) (b .arcs)) (high n (wordAt s at)))
-      (λ _. of-none (any (high n) (b .words) || any (λ (x : Arc). leb n (x .high)) (b .arcs)))
-      (λ _. ap (λ (c : Bool). any (high n) (b .words) || c) (any-snoc (λ (x : Arc). leb n (x .high)) (b .arcs) (arcAt s at))
-      ∙ of-arc (any (high n) (b .words)) (any (λ (x : Arc). leb n (x .high)) (b .arcs)) (leb n (byte s (at + highAt))))
-      (of-none (any (high n) (b .words) || any (λ (x : Arc). leb n (x .high)) (b .arcs)))
+      (λ _. ap (λ (c : Bool). c || any (highArc n) (b .arcs)) (any-snoc (high n) (b .words) (wordAt s at))
+      ∙ of-word (any (high n) (b .words)) (any (highArc n) (b .arcs)) (high n (wordAt s at)))
+      (λ _. of-none (any (high n) (b .words) || any (highArc n) (b .arcs)))
+      (λ _. ap (λ (c : Bool). any (high n) (b .words) || c) (any-snoc (highArc n) (b .arcs) (arcAt s at))
+      ∙ of-arc (any (high n) (b .words)) (any (highArc n) (b .arcs)) (highArc n (arcAt s at)))
+      (of-none (any (high n) (b .words) || any (highArc n) (b .arcs)))
     where
       of-none : (a : Bool) → a ≡ (a || false)
       of-none true = refl

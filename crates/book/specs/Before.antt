@@ -15,9 +15,13 @@ use Rattle.book.specs.declared.Scan.{Scan}
 abbrev pub high : ℕ → List ℕ → Bool
 high n = any (leb n)
 
+-- the arc is open to one
+abbrev pub highArc : ℕ → Arc → Bool
+highArc n x = leb n (x .high)
+
 -- a word of the book has one, or an arc is open to one
 unfoldable pub highBook : ℕ → Book → Bool
-highBook n b = any (high n) (b .words) || any (λ (x : Arc). leb n (x .high)) (b .arcs)
+highBook n b = any (high n) (b .words) || any (highArc n) (b .arcs)
 
 -- no arc is open to the symbol
 unfoldable pub onNoArc : Book → ℕ → Bool
