@@ -3,6 +3,7 @@
 use Prim.Native.Nat.{ℕ, zero, suc, _+_, _≤_, _<_}
 use mathlib.Core.Path.{_≡_, refl, sym, ap, ap₂, _∙_}
 use mathlib.Core.List.{List, [], _∷_, _++_}
+use mathlib.Core.Bool as B
 use mathlib.Core.Bool.{Bool, true, false, not, cond, _&&_, _||_, and-false, false≢true}
 use native.Mathlib.Omega.{arith}
 use lib.Dec.{leb, ltb, eqb}
@@ -26,16 +27,8 @@ or-none true b e = absurd (false≢true (sym e))
 or-none false b e = (refl, e)
 
 any-snoc {ℓ} : {A : Type ℓ} (f : A → Bool) (xs : List A) (x : A) → any f (xs ++ (x ∷ [])) ≡ (any f xs || f x)
-any-snoc f [] x = or-last (f x)
-  where
-    or-last : (a : Bool) → (a || false) ≡ a
-    or-last true = refl
-    or-last false = refl
-any-snoc f (y ∷ xs) x = ap (λ (c : Bool). f y || c) (any-snoc f xs x) ∙ sym (or-three (f y) (any f xs) (f x))
-  where
-    or-three : (a b c : Bool) → ((a || b) || c) ≡ (a || (b || c))
-    or-three true b c = refl
-    or-three false b c = refl
+any-snoc f [] x = B.or-false (f x)
+any-snoc f (y ∷ xs) x = ap (λ (c : Bool). f y || c) (any-snoc f xs x) ∙ sym (B.or-assoc (f y) (any f xs) (f x))
 
 -- a test with another reply than the one that was given did not hold
 test-not : (t : Bool) (r rest v : ℕ) → (r ≡ v → ⊥) → cond t r rest ≡ v → (t ≡ false) × (rest ≡ v)

@@ -6,7 +6,7 @@ use mathlib.Core.Bool as B
 use mathlib.Core.Bool.{Bool, true, false, not, cond, _&&_, _||_}
 use mathlib.Core.List.{List, [], _∷_, _++_}
 use native.Mathlib.Omega.{arith}
-use borrow.Author.Tests.{eq-eqb, le-ltb}
+use borrow.Author.Tests.{eq-eqb, le-ltb, not-true}
 use lib.Arith.{digits-lt}
 use lib.Dec.{ltb, leb, eqb}
 use lib.ListN.{length, getD, drop, List·getD-append}
@@ -34,10 +34,6 @@ module _ (b : Book) (X a : ℕ) (shut : onNoArc b a ≡ true) where
   unfolding onNoArc
   none f c = by (b .arcs) (not-true _ shut)
     where
-      not-true : (c : Bool) → not c ≡ true → c ≡ false
-      not-true true e = sym e
-      not-true false e = refl
-
       by : (arcs : List Arc) → any (λ (x : Arc). leb (x .low) a && leb a (x .high)) arcs ≡ false → any f arcs ≡ false
       by [] z = refl
       by (x ∷ arcs) z = let y = or-none (leb (x .low) a && leb a (x .high)) _ z in ap₂ _||_ (c x (y .0)) (by arcs (y .1))

@@ -7,9 +7,10 @@ use mathlib.Core.List.{List, [], _∷_, _++_, append-nil, append-assoc}
 use native.Mathlib.Omega.{arith}
 use native.Mathlib.Nat.{mul-comm, add-suc, add-zero, suc-mul, zero-mul, le-trans, mul-le-mul-right}
 use native.Mathlib.Decide.{decLt, ℕ-discrete}
+use native.Mathlib.Numerals.{add-one}
 use lib.Arith.{digits-lt, digits-div, digits-mod}
 use lib.Dec.{ltb}
-use lib.ListN.{length, getD, replicate, length-append, length-replicate, getD-replicate, List·getD-append, List·getD-eq-default}
+use lib.ListN.{length, getD, replicate, length-append, length-replicate, getD-replicate, replicate-append-replicate, List·getD-append, List·getD-eq-default}
 use lib.Seq.{getD-append-add}
 use borrow.Author.Tests.{lt-ltb, le-ltb}
 use Rattle.book.specs.Format.{symbolCount}
@@ -146,10 +147,6 @@ module _ (f : ℕ → ℕ → ℕ) (k : ℕ) (S : List ℕ) where
 Headed : ℕ → List ℕ → Type 0
 Headed s S = (T : List ℕ) × (S ≡ s ∷ T)
 
-replicate-last : (x e : ℕ) → replicate e x ++ (x ∷ []) ≡ replicate (suc e) x
-replicate-last x zero = refl
-replicate-last x (suc e) = ap (λ (l : List ℕ). x ∷ l) (replicate-last x e)
-
 module _ (s : ℕ) where
   first-number : (S : List ℕ) → Headed s S → (idx S s ≡ 0) × (0 < length S)
   unfolding Headed
@@ -190,7 +187,7 @@ module _ (s : ℕ) where
           ap (λ (n : ℕ). numbers f k n S) (add-suc w d)
           ∙ ap₂ (λ (l : List ℕ) (n : ℕ). l ++ (n ∷ [])) (numbers-back d) e
           ∙ append-assoc (numbers f k w S) (replicate d 0) (0 ∷ [])
-          ∙ ap (λ (l : List ℕ). numbers f k w S ++ l) (replicate-last 0 d)
+          ∙ ap (λ (l : List ℕ). numbers f k w S ++ l) (replicate-append-replicate d 1 0 ∙ ap (λ (n : ℕ). replicate n 0) (add-one d))
 
 -- two tables with rows of w and of w + d entries: the same sets, and rows that agree
 pub record Same (s w d K : ℕ) (t t′ : Table) : Type 0 where
