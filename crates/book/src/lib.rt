@@ -80,6 +80,13 @@ pub struct Checked {
     pub arcs: usize,
 }
 
+// The answer of an operation that writes records: the reply, its place, and how many bytes were written; 0 on a refusal.
+pub struct Written {
+    pub reply: u8,
+    pub place: usize,
+    pub length: usize,
+}
+
 // What the records so far have given: their counts, the number of the latest rule's first state, and each state's part.
 pub struct Scan {
     pub rules: usize,

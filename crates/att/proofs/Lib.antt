@@ -1,0 +1,11 @@
+pub mod Parting
+pub mod Rows
+pub mod Names
+pub mod Good
+pub mod Surveying
+pub mod Filling
+pub mod Appearing
+pub mod Flags
+pub mod Putting
+pub mod Answers
+pub mod Planning

@@ -1,0 +1,24 @@
+use native.Mathlib.Omega.{arith}
+use mathlib.Core.Path.{_≡_, _∙_}
+use Rattle.att.proofs.Parting.{front-length, front-is}
+use borrow.Author.Needs.{needs}
+use Rattle.att.proofs.fields.front.Statement.{statement}
+use Rattle.att.proofs.fields.front.Tie as tie
+use Rattle.att.proofs.fields.front.Reads as reads
+use Rattle.att.proofs.fields.front.Lts as lts
+use Rattle.att.proofs.fields.span.Reads as span-reads
+
+-- src/lib.rt:38:9
+span-requires : tie.Need-span-requires
+span-requires c κs = search needs
+
+-- src/lib.rt:39:5
+slice-aggregate-result : tie.Need-slice-aggregate-result
+slice-aggregate-result c = front-length 9 _ _ (c .before .span .ensures)
+
+-- src/lib.rt:35:1
+returns : tie.Need-returns
+returns c = front-is 9 _ _ (c .before .span .ensures)
+
+pub front-spec : {M : Type 1} → statement M
+front-spec = tie.close (tie.spec span-requires slice-aggregate-result returns)

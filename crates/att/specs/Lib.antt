@@ -1,0 +1,9 @@
+-- A line, the text, and what IMPORT answers and leaves.
+pub mod Fields
+pub mod Reading
+pub mod Text
+-- What inner functions hand on.
+pub mod Numbers
+pub mod Survey
+-- Worked rows.
+pub mod Examples

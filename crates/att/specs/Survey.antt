@@ -1,0 +1,77 @@
+-- What the passes over the text know and leave.
+use Prim.Native.Nat.{ℕ, zero, suc, _+_, _*_, _≤_, _<_}
+use mathlib.Core.Path.{_≡_}
+use mathlib.Core.List.{List, [], _∷_, _++_}
+use mathlib.Core.Bool.{cond}
+use lib.Dec.{eqb}
+use lib.ListN.{length, take, drop, replicate}
+use lib.Seq.{sets}
+use Rattle.book.specs.Format.{mostStates, startFlag, acceptFlag, bothFlags, stateSize}
+use Rattle.book.specs.declared.Written.{Written}
+use Rattle.att.specs.Text.{Said, Read, refused, accepted, readText, linesIn, add, names, arcCount, stateRecords, needed, answerRead}
+use Rattle.att.specs.declared.Known.{Known}
+use Rattle.att.specs.declared.Survey.{Survey}
+use Rattle.att.specs.declared.Plan.{Plan}
+
+-- the first `count` numbers of the list are the states S; a count of one more than there may be stands for more
+pub record Lists (known : Known) (S : List ℕ) : Type 0 where
+  pub few : length S ≤ mostStates → known .count ≡ length S
+  pub same : length S ≤ mostStates → take (length S) (known .list) ≡ S
+  pub many : mostStates < length S → known .count ≡ mostStates + 1
+  pub long : length (known .list) ≡ mostStates
+
+pub record Entered (known next : Known) (x : ℕ) : Type 0 where
+  pub room : next .count ≤ mostStates + 1
+  pub lists : (S : List ℕ) → Lists known S → Lists next (add S x)
+
+pub record SurveyOf (ls : List Said) (v : Survey) : Type 0 where
+  pub reply : v .reply ≡ 0
+  pub arcs : v .arcs ≡ arcCount ls
+  pub lists : Lists (v .known) (names ls)
+  pub room : v .known .count ≤ mostStates + 1
+
+pub record Refusal (r p : ℕ) (v : Survey) : Type 0 where
+  pub reply : v .reply ≡ r
+  pub place : v .place ≡ p
+  pub some : v .reply ≡ 0 → ⊥
+
+abbrev pub Surveyed : Read → Survey → Type 0
+Surveyed (refused r p) v = Refusal r p v
+Surveyed (accepted ls) v = SurveyOf ls v
+
+-- the flags of n states before any line is read
+unfoldable pub fresh : ℕ → List ℕ
+fresh zero = 0 ∷ []
+fresh (suc n) = startFlag ∷ replicate n 0
+
+-- o with the bytes vs stored from `at` on
+unfoldable pub put : List ℕ → ℕ → List ℕ → List ℕ
+put o at vs = sets o at vs
+
+-- the list `out` is W at the front, and o behind it
+pub record Filled (out W o : List ℕ) : Type 0 where
+  pub room : length W ≤ length o
+  pub is : out ≡ W ++ drop (length W) o
+
+-- what an accepted text gives the second pass: n states, in the list, with the first number and the room that they need
+pub record Clear (s list : List ℕ) (n first room : ℕ) : Type 0 where
+  pub good : readText s ≡ accepted (linesIn (readText s))
+  pub states : n ≡ length (names (linesIn (readText s)))
+  pub listed : take n list ≡ names (linesIn (readText s))
+  pub long : length list ≡ mostStates
+  pub few : n ≤ mostStates
+  pub top : first + n ≤ mostStates
+  pub enough : needed (linesIn (readText s)) ≤ room
+
+-- and the states' records stand at the front of the output
+pub record Ready (out s list : List ℕ) (n part first : ℕ) : Type 0 where
+  pub clear : Clear s list n first (length out)
+  pub front : take (stateSize * length (fresh n)) out ≡ stateRecords part (fresh n)
+
+unfoldable pub finalFlags : ℕ → ℕ
+finalFlags k = cond (eqb k 0) bothFlags acceptFlag
+
+pub record Planned (s : List ℕ) (first room : ℕ) (p : Plan) : Type 0 where
+  pub answer : p .answer ≡ answerRead first room (readText s)
+  pub clear : p .answer .reply ≡ 0 → Clear s (p .known .list) (p .known .count) first room
+  pub count : p .answer .reply ≡ 0 → p .answer .length ≡ needed (linesIn (readText s))

@@ -1,0 +1,263 @@
+// IMPORT: a text in the AT&T form of acceptors as one part of a rule.
+use crate::reading::line_from;
+use crate::reading::Line;
+use book::Written;
+ghost use mathlib.Core.Path.{_≡_};
+ghost use Prim.Native.Nat.{_+_, _*_, _≤_};
+ghost use mathlib.Core.List.{[], _∷_};
+ghost use lib.ListN.{length, take};
+ghost use Rattle.book.specs.Format.{mostStates, stateSize, arcSize, stateKind, arcKind};
+ghost use Rattle.att.specs.Text.{readText, linesIn, idx, stateRecords, written, refusal, answerBy, importLeaves, importDef};
+ghost use Rattle.att.specs.Survey.{Entered, Surveyed, fresh, put, Filled, Ready, finalFlags, Planned};
+
+mod fields; // fields.rt: a line's fields, and a field as a number
+mod reading; // reading.rt: one line, and the text with a place in it
+
+// The number of states that stands for more than there may be.
+const MANY: usize = book::STATES + 1;
+
+// The states of the text so far, in the order of first appearance: `count` of them, or MANY where the list has no room for all.
+pub struct Known {
+    pub list: [u16; book::STATES],
+    pub count: usize,
+}
+
+// The first pass over the text.
+pub struct Survey {
+    pub reply: u8,
+    pub place: usize,
+    pub arcs: usize,
+    pub known: Known,
+}
+
+// The number of x among the first n states; n where it is none of them.
+fn number_of(list: &[u16; book::STATES], n: usize, x: u16) -> usize
+    requires { ⌜ (n ≤ mostStates) × (length (now list) ≡ mostStates) ⌝ }
+    ensures { λ r. ⌜ r ≡ idx (take n (now (list .entry))) x ⌝ }
+{
+    let mut k = 0;
+    while k < n {
+        if list[k] == x {
+            return k;
+        }
+        k += 1;
+    }
+    k
+}
+
+// The states with x.
+fn with_state(known: Known, x: u16) -> Known
+    requires { ⌜ (known .count ≤ mostStates + 1) × (length (known .list) ≡ mostStates) ⌝ }
+    ensures { λ r. ⌜ Entered known r x ⌝ }
+{
+    let n = known.count;
+    if book::STATES < n {
+        return known;
+    }
+    let list = known.list;
+    let k = number_of(&list, n, x);
+    if k < n {
+        return known;
+    }
+    let mut more = known;
+    if n == book::STATES {
+        more.count = MANY;
+        return more;
+    }
+    more.list[n] = x;
+    more.count = n + 1;
+    more
+}
+
+fn survey_of(text: &[u8]) -> Survey
+    ensures { λ r. ⌜ Surveyed (readText (now (text .entry))) r ⌝ }
+{
+    let mut known = Known {
+        list: [0u16; book::STATES],
+        count: 0,
+    };
+    let mut arcs = 0;
+    let mut at = 0;
+    loop {
+        let line = line_from(text, at);
+        match line {
+            Line::End => {
+                return Survey {
+                    reply: 0,
+                    place: 0,
+                    arcs,
+                    known,
+                };
+            }
+            Line::Final(x, next) => {
+                known = with_state(known, x);
+                at = next;
+            }
+            Line::Arc(x, y, _, next) => {
+                known = with_state(known, x);
+                known = with_state(known, y);
+                arcs += 1;
+                at = next;
+            }
+            Line::Faulty(reply) => {
+                return Survey {
+                    reply,
+                    place: at,
+                    arcs,
+                    known,
+                };
+            }
+        }
+    }
+}
+
+fn put_state(out: &mut [u8], at: usize, part: u8, flags: u8)
+    requires { ⌜ at + stateSize ≤ length (now out) ⌝ }
+    ensures { λ _. ⌜ now (out .exit) ≡ put (now (out .entry)) at (stateKind ∷ part ∷ flags ∷ []) ⌝ }
+{
+    out[at] = book::STATE;
+    out[at + book::PART] = part;
+    out[at + book::FLAGS] = flags;
+}
+
+fn put_arc(out: &mut [u8], at: usize, from: u8, symbol: u8, to: u8)
+    requires { ⌜ at + arcSize ≤ length (now out) ⌝ }
+    ensures { λ _. ⌜ now (out .exit) ≡ put (now (out .entry)) at (arcKind ∷ from ∷ symbol ∷ symbol ∷ to ∷ []) ⌝ }
+{
+    out[at] = book::ARC;
+    out[at + book::FROM] = from;
+    out[at + book::LOW] = symbol;
+    out[at + book::HIGH] = symbol;
+    out[at + book::TO] = to;
+}
+
+// The records of n states, none of them accepting yet, the first the start; of one state that is no start where n is 0.
+fn put_states(out: &mut [u8], part: u8, n: usize)
+    requires { ⌜ (n ≤ mostStates) × (stateSize * length (fresh n) ≤ length (now out)) ⌝ }
+    ensures { λ _. ⌜ Filled (now (out .exit)) (stateRecords part (fresh n)) (now (out .entry)) ⌝ }
+{
+    if n == 0 {
+        put_state(out, 0, part, 0);
+        return;
+    }
+    put_state(out, 0, part, book::START);
+    let mut m = 0;
+    while m + 1 < n {
+        m += 1;
+        put_state(out, book::STATE_SIZE * m, part, 0);
+    }
+}
+
+// The flags of a final state: the first is the start too.
+fn final_flags(k: usize) -> u8
+    ensures { λ r. ⌜ r ≡ finalFlags k ⌝ }
+{
+    if k == 0 { book::BOTH } else { book::ACCEPT }
+}
+
+// The second pass: accepting states are marked in their records, and arcs are written after the states.
+fn put_lines(out: &mut [u8], text: &[u8], list: &[u16; book::STATES], n: usize, part: u8, first: usize)
+    requires { ⌜ Ready (now out) (now text) (now list) n part first ⌝ }
+    ensures { λ _. ⌜ Filled (now (out .exit)) (written part first (linesIn (readText (now (text .entry))))) (now (out .entry)) ⌝ }
+{
+    let mut used = book::STATE_SIZE * states_of(n);
+    let mut at = 0;
+    loop {
+        let line = line_from(text, at);
+        match line {
+            Line::Final(x, next) => {
+                let k = number_of(list, n, x);
+                out[book::STATE_SIZE * k + book::FLAGS] = final_flags(k);
+                at = next;
+            }
+            Line::Arc(x, y, a, next) => {
+                let p = number_of(list, n, x);
+                let q = number_of(list, n, y);
+                put_arc(out, used, (first + p) as u8, a, (first + q) as u8);
+                used += book::ARC_SIZE;
+                at = next;
+            }
+            Line::End => return,
+            Line::Faulty(_) => return,
+        }
+    }
+}
+
+// One state is written even where the text has none.
+fn states_of(n: usize) -> usize
+    ensures { λ r. ⌜ r ≡ length (fresh n) ⌝ }
+{
+    if n == 0 { 1 } else { n }
+}
+
+// An accepted text's answer by its numbers of arcs and states.
+fn judged(arcs: usize, states: usize, first: usize, room: usize) -> Written
+    requires { ⌜ (states ≤ mostStates + 1) × (first ≤ 255) ⌝ }
+    ensures { λ r. ⌜ r ≡ answerBy arcs states first room ⌝ }
+{
+    if book::ARCS < arcs {
+        return refused(21, 0);
+    }
+    if book::STATES < first + states {
+        return refused(21, 0);
+    }
+    let bytes = book::STATE_SIZE * states + book::ARC_SIZE * arcs;
+    if room < bytes {
+        return refused(15, bytes);
+    }
+    Written {
+        reply: 0,
+        place: 0,
+        length: bytes,
+    }
+}
+
+fn refused(reply: u8, place: usize) -> Written
+    ensures { λ r. ⌜ r ≡ refusal reply place ⌝ }
+{
+    Written {
+        reply,
+        place,
+        length: 0,
+    }
+}
+
+// All that is decided before a byte is written.
+pub struct Plan {
+    pub answer: Written,
+    pub known: Known,
+}
+
+fn plan_of(text: &[u8], first: u8, room: usize) -> Plan
+    ensures { λ r. ⌜ Planned (now (text .entry)) first room r ⌝ }
+{
+    let v = survey_of(text);
+    let known = v.known;
+    if v.reply != 0 {
+        let answer = refused(v.reply, v.place);
+        return Plan { answer, known };
+    }
+    let answer = judged(v.arcs, states_of(known.count), first as usize, room);
+    Plan { answer, known }
+}
+
+// Document 02's IMPORT: any text, part, first number and buffer get their reply.
+pub fn import(text: &[u8], part: u8, first: u8, out: &mut [u8]) -> Written
+    ensures { λ r. ⌜ importLeaves r (now (out .exit)) ≡ importDef (now (text .entry)) part first (now (out .entry)) ⌝ }
+{
+    if book::RIGHT < part {
+        return refused(5, 0);
+    }
+    let room = out.len();
+    let plan = plan_of(text, first, room);
+    let answer = plan.answer;
+    if answer.reply != 0 {
+        return answer;
+    }
+    let known = plan.known;
+    let list = known.list;
+    let n = known.count;
+    put_states(out, part, n);
+    put_lines(out, text, &list, n, part, first as usize);
+    answer
+}
