@@ -9,3 +9,5 @@ pub mod Flags
 pub mod Putting
 pub mod Answers
 pub mod Planning
+pub mod Some
+pub mod Words

@@ -5,5 +5,8 @@ pub mod Text
 -- What inner functions hand on.
 pub mod Numbers
 pub mod Survey
+-- What theorems speak of besides.
+pub mod Words
+pub mod Placed
 -- Worked rows.
 pub mod Examples
