@@ -22,7 +22,7 @@ faulty-both : (P : Line → Type 0) (t : Bool) (r : ℕ) (rest : Line) → P (Fa
 faulty-both P true r rest a b = a
 faulty-both P false r rest a b = b
 
-pick-both : (P : Line → Type 0) (t : Bool) (a b : Line) → (t ≡ true → P a) → (t ≡ false → P b) → P (pickLine t a b)
+pub pick-both : (P : Line → Type 0) (t : Bool) (a b : Line) → (t ≡ true → P a) → (t ≡ false → P b) → P (pickLine t a b)
 pick-both P true a b f g = f refl
 pick-both P false a b f g = g refl
 

@@ -11,3 +11,5 @@ pub mod Answers
 pub mod Planning
 pub mod Some
 pub mod Words
+pub mod Symbols
+pub mod Passing

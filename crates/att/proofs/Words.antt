@@ -81,12 +81,12 @@ leb-both b a = by-case (decLt a b) (decLt b a)
     by-case (no h) (no k) = simp (le-leb b a (omega (arith, h)), le-leb a b (omega (arith, k)), eq-eqb b a (omega (arith, h, k)))
 
 -- every state of the lines is among the names
-abbrev Named : List ℕ → List Said → Type 0
+abbrev pub Named : List ℕ → List Said → Type 0
 Named S [] = Unit {0}
 Named S (arc x y a ∷ ls) = (In S x × In S y) × Named S ls
 Named S (final x ∷ ls) = In S x × Named S ls
 
-named-from : (S : List ℕ) (ls : List Said) → Named (namesFrom S ls) ls
+pub named-from : (S : List ℕ) (ls : List Said) → Named (namesFrom S ls) ls
 unfolding namesFrom
 named-from S [] = tt
 named-from S (arc x y a ∷ ls) = ((in-names (add (add S x) y) x ls (in-keep (add S x) x y (in-add S x)), in-names (add (add S x) y) y ls (in-add (add S x) y)), named-from (add (add S x) y) ls)

@@ -5,7 +5,7 @@ use mathlib.Core.List.{List, [], _∷_, _++_}
 use mathlib.Core.Bool.{Bool, false, _&&_}
 use lib.ListN.{length, take, getD}
 use lib.Dec.{ltb, leb, eqb}
-use Rattle.book.specs.Format.{endKind, stateSize}
+use Rattle.book.specs.Format.{stateSize}
 use Rattle.book.specs.Reading.{State, Arc, Book}
 use Rattle.book.specs.Language.{any, stateOf}
 use Rattle.att.specs.Text.{Said, arc, final, idx, names, flags, stateCount, importDef}
@@ -62,7 +62,3 @@ pub record Holds (b : Book) (r part first : ℕ) (ls : List Said) : Type 0 where
 -- the bytes that IMPORT wrote
 abbrev pub importBytes : List ℕ → ℕ → ℕ → List ℕ → List ℕ
 importBytes s part first out = take (importDef s part first out .answer .length) (importDef s part first out .out)
-
--- records with an end record after them
-abbrev pub closed : List ℕ → List ℕ
-closed records = records ++ (endKind ∷ [])

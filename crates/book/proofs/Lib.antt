@@ -14,6 +14,8 @@ pub mod Accepted
 pub mod Retired
 pub mod Sound
 pub mod Walk
+pub mod Fronts
+pub mod Records
 pub mod Placing
 pub mod Masking
 pub mod Outlining

@@ -90,7 +90,7 @@ pub record ArcPassed (b : Book) (x : Arc) : Type 0 where
   pub to : (b .first ≤ x .to) × (x .to < length (b .states))
   pub part : stateOf b (x .from) .part ≡ stateOf b (x .to) .part
 
-part-at : (l : List State) (k : ℕ) → byte (map partOf l) k ≡ getD l k noState .part
+pub part-at : (l : List State) (k : ℕ) → byte (map partOf l) k ≡ getD l k noState .part
 part-at l k = List·getD-map partOf l k noState
 
 pub arc-passed : (b : Book) (x : Arc) → arcReply (x .from) (x .low) (x .high) (x .to) (scanOf b) ≡ 0 → ArcPassed b x

@@ -9,6 +9,7 @@ pub mod Before
 pub mod Scanning
 pub mod Outline
 pub mod Sound
+pub mod Fronts
 -- Examples: the house book, a refusal of each number.
 pub mod House
 pub mod Examples
