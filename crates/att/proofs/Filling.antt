@@ -135,3 +135,13 @@ pub fresh-top : (n : ℕ) → n ≤ 64 → length (fresh n) ≤ 64
 unfolding fresh
 fresh-top zero h = omega arith
 fresh-top (suc n) h = let l = length-replicate {A = ℕ} n 0 in omega arith
+
+pub fresh-room : (n : ℕ) → n ≤ 65 → length (fresh n) ≤ 65
+unfolding fresh
+fresh-room zero h = omega arith
+fresh-room (suc n) h = let l = length-replicate {A = ℕ} n 0 in omega arith
+
+pub fresh-more : (n : ℕ) → n ≤ length (fresh n)
+unfolding fresh
+fresh-more zero = omega arith
+fresh-more (suc n) = let l = length-replicate {A = ℕ} n 0 in omega arith

@@ -3,45 +3,30 @@ use Prim.Native.Nat.{ℕ, zero, suc, _+_, _-_, _*_, _≤_, _<_}
 use mathlib.Core.Path.{_≡_, refl, ap, sym, _∙_, subst}
 use mathlib.Core.List.{List, [], _∷_, _++_, append-assoc, append-nil}
 use mathlib.Core.Bool.{Bool, true, false, _||_, cond}
+use mathlib.Core.Bool as B
 use native.Mathlib.Omega.{arith}
 use native.Mathlib.Decide.{decLt, ℕ-discrete}
 use lib.Dec.{eqb, ltb}
 use lib.ListN.{length, take, drop, set, replicate, length-append, length-set, length-replicate, take-append-drop}
 use lib.Seq.{sets, set-append-left, length-take-le}
 use borrow.Author.Tests.{eq-eqb, ne-eqb}
-use Rattle.att.specs.Text.{Said, arc, final, idx, arcOne, arcCount, finalFor, isFinal, flagsFrom, flags, stateRecords, arcRecord, arcRecords}
+use Rattle.att.specs.Text.{Said, arc, final, idx, names, stateCount, arcOne, arcCount, finalFor, isFinal, flagsFrom, flags, stateRecords, arcRecord, arcRecords}
 use Rattle.att.specs.Survey.{fresh, finalFlags}
 use Rattle.att.specs.declared.reading.Line.{Line}
 use Rattle.att.specs.declared.reading.Line.the-variants.{End, Final, Arc, Faulty}
 use Rattle.att.proofs.Names.{idx-here, idx-there, idx-le}
 use Rattle.att.proofs.Surveying.{Walk, walk-start, walk-end, walk-refused, walk-final, walk-arc, arcs-snoc}
-use Rattle.att.proofs.Filling.{filled-length, filled-self, fill-put, records-length, fresh-length}
+use Rattle.att.proofs.Filling.{filled-length, filled-self, fill-put, records-length, fresh-length, fresh-more}
 use Rattle.att.proofs.Appearing.{Longer, walk-longer, In, final-in, source-in, target-in, Once, none, one, once-names}
 
 final-snoc : (ls : List Said) (l : Said) (q : ℕ) → isFinal (ls ++ (l ∷ [])) q ≡ (isFinal ls q || finalFor l q)
 unfolding isFinal
-final-snoc [] l q = or-false (finalFor l q)
-  where
-    or-false : (b : Bool) → (b || false) ≡ b
-    or-false true = refl
-    or-false false = refl
-final-snoc (m ∷ ls) l q = ap (λ (b : Bool). finalFor m q || b) (final-snoc ls l q) ∙ or-assoc (finalFor m q) (isFinal ls q) (finalFor l q)
-  where
-    or-assoc : (a b d : Bool) → (a || (b || d)) ≡ ((a || b) || d)
-    or-assoc true b d = refl
-    or-assoc false b d = refl
-
-or-none : (b : Bool) → (b || false) ≡ b
-or-none true = refl
-or-none false = refl
-
-or-some : (b : Bool) → (b || true) ≡ true
-or-some true = refl
-or-some false = refl
+final-snoc [] l q = B.or-false (finalFor l q)
+final-snoc (m ∷ ls) l q = ap (λ (b : Bool). finalFor m q || b) (final-snoc ls l q) ∙ sym (B.or-assoc (finalFor m q) (isFinal ls q) (finalFor l q))
 
 -- an arc changes no flag
 arc-flag : (ls : List Said) (x y a q : ℕ) → isFinal (ls ++ (arc x y a ∷ [])) q ≡ isFinal ls q
-arc-flag ls x y a q = final-snoc ls (arc x y a) q ∙ or-none (isFinal ls q)
+arc-flag ls x y a q = final-snoc ls (arc x y a) q ∙ B.or-false (isFinal ls q)
 
 flags-arc-from : (start : ℕ) (ls : List Said) (x y a : ℕ) (S : List ℕ) → flagsFrom start (ls ++ (arc x y a ∷ [])) S ≡ flagsFrom start ls S
 flags-arc-from start ls x y a [] = refl
@@ -54,10 +39,10 @@ flags-arc ls x y a (q ∷ S) = flags-arc-from 1 ls x y a (q ∷ S)
 
 -- a final state's flag
 same-flag : (ls : List Said) (x q : ℕ) → (x ≡ q → ⊥) → isFinal (ls ++ (final x ∷ [])) q ≡ isFinal ls q
-same-flag ls x q h = final-snoc ls (final x) q ∙ ap (λ (b : Bool). isFinal ls q || b) (ne-eqb x q h) ∙ or-none (isFinal ls q)
+same-flag ls x q h = final-snoc ls (final x) q ∙ ap (λ (b : Bool). isFinal ls q || b) (ne-eqb x q h) ∙ B.or-false (isFinal ls q)
 
 new-flag : (ls : List Said) (x q : ℕ) → x ≡ q → isFinal (ls ++ (final x ∷ [])) q ≡ true
-new-flag ls x q h = final-snoc ls (final x) q ∙ ap (λ (b : Bool). isFinal ls q || b) (eq-eqb x q h) ∙ or-some (isFinal ls q)
+new-flag ls x q h = final-snoc ls (final x) q ∙ ap (λ (b : Bool). isFinal ls q || b) (eq-eqb x q h) ∙ B.or-true (isFinal ls q)
 
 flags-other : (start : ℕ) (ls : List Said) (x : ℕ) (S : List ℕ) → idx S x ≡ length S → flagsFrom start (ls ++ (final x ∷ [])) S ≡ flagsFrom start ls S
 flags-other start ls x [] h = refl
@@ -145,3 +130,7 @@ set-record part (f ∷ fs) R zero v h = refl
 set-record part (f ∷ fs) R (suc k) v h =
     let e : 3 * suc k + 2 ≡ suc (suc (suc (3 * k + 2))) = omega arith in
     rw (e, set-record part fs R k v (omega arith))
+
+-- a state is written for each name
+pub names-few : (ls : List Said) → length (names ls) ≤ stateCount ls
+names-few ls = let a = flags-long ls (names ls) in let b = fresh-more (length (names ls)) in omega arith

@@ -13,3 +13,5 @@ pub mod Some
 pub mod Words
 pub mod Symbols
 pub mod Passing
+pub mod Taking
+pub mod Joining

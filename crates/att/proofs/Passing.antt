@@ -6,7 +6,7 @@ use mathlib.Core.Bool.{Bool, true, false, cond}
 use native.Mathlib.Nat.{suc-add}
 use native.Mathlib.Omega.{arith}
 use lib.ListN.{length, drop, getD, length-append, List·getD-append}
-use lib.Seq.{drop-drop, getD-append-add}
+use lib.Seq.{drop-drop, drop-append-seam, getD-append-add}
 use Rattle.book.specs.Format.{mostStates, mostArcs, rightPart, bothFlags, startFlag, acceptFlag, stateSize, arcSize}
 use Rattle.book.specs.Reading.{State, Arc, Book, readFrom, withState, withArc}
 use Rattle.book.specs.Language.{noState, stateOf}
@@ -14,7 +14,8 @@ use Rattle.book.proofs.Sound.{ArcPassed}
 use Rattle.book.proofs.Records.{read-state, read-arc}
 use Rattle.att.specs.Text.{Said, arc, final, idx, namesFrom, names, arcCount, isFinal, flagsFrom, flags, stateRecords, arcRecords, written, stateCount, needed}
 use Rattle.att.specs.Placed.{partArc, partArcs, partStates, latest, withPart}
-use Rattle.att.proofs.Appearing.{In}
+use Rattle.att.proofs.Filling.{records-length}
+use Rattle.att.proofs.Flags.{names-few}
 use Rattle.att.proofs.Symbols.{Symbols}
 use Rattle.att.proofs.Words.{Named, named-from}
 
@@ -99,3 +100,65 @@ read-arcs first S part (arc x y a ∷ ls) s at b R e some room g m q n =
 read-arcs first S part (final x ∷ ls) s at b R e some room g m q n =
     let c : 0 + arcCount ls ≡ arcCount ls = omega arith in
     rw c (read-arcs first S part ls s at b R e some (omega arith) g (m .1) q n)
+
+-- ---- the part
+-- a state of the part, in the order of its flags
+pub part-state : (rule part at : ℕ) (fs : List ℕ) (i : ℕ) → i < length fs
+    → getD (partStates rule part at fs) i noState ≡ record { rule = rule; part = part; flags = getD fs i 0; place = at + stateSize * i }
+unfolding partStates
+part-state rule part at [] i l = let z : ⊥ = omega arith in absurd z
+part-state rule part at (f ∷ fs) zero l =
+    let e : at ≡ at + stateSize * 0 = omega arith in
+    λ j. record { rule = rule; part = part; flags = f; place = e j }
+part-state rule part at (f ∷ fs) (suc i) l =
+    let e : at + stateSize + stateSize * i ≡ at + stateSize * suc i = omega arith in
+    part-state rule part (at + stateSize) fs i (omega arith) ∙ (λ j. record { rule = rule; part = part; flags = getD fs i 0; place = e j })
+
+pub part-long : (rule part at : ℕ) (fs : List ℕ) → length (partStates rule part at fs) ≡ length fs
+unfolding partStates
+part-long rule part at [] = refl
+part-long rule part at (f ∷ fs) = ap suc (part-long rule part (at + stateSize) fs)
+
+-- what CHECK needs of the book before the part
+pub record Fits (b : Book) (part : ℕ) (ls : List Said) : Type 0 where
+  pub some : 0 < length (b .words)
+  pub first : b .first ≤ length (b .states)
+  pub states : length (b .states) + stateCount ls ≤ mostStates
+  pub arcs : length (b .arcs) + arcCount ls ≤ mostArcs
+  pub low : part ≤ rightPart
+  pub symbols : Symbols ls
+
+module _ (s : List ℕ) (at : ℕ) (b : Book) (part : ℕ) (ls : List Said) (R : List ℕ) (h : Fits b part ls) where
+  abbrev fs : List ℕ
+  fs = flags ls (names ls)
+
+  abbrev first : ℕ
+  first = length (b .states)
+
+  new-state : (i : ℕ) → i < length fs → getD (b .states ++ partStates (latest b) part at fs) (first + i) noState
+      ≡ record { rule = latest b; part = part; flags = getD fs i 0; place = at + stateSize * i }
+  new-state i l = getD-append-add (b .states) (partStates (latest b) part at fs) i noState ∙ part-state (latest b) part at fs i l
+
+  given : Given (addStates b at part fs) first (length (names ls)) part
+  given =
+      let e = names-few ls in
+      let a = length-append (b .states) (partStates (latest b) part at fs) in
+      let c = part-long (latest b) part at fs in
+      record {
+        latest = h .first;
+        there = omega arith;
+        of = λ i l. ap (λ (st : State). st .part) (new-state i (omega arith));
+      }
+
+  pub read-part : drop at s ≡ written part first ls ++ R → (n : ℕ)
+      → readFrom (stateCount ls + (arcCount ls + n)) s at b ≡ readFrom n s (at + needed ls) (withPart b at part ls)
+  unfolding written names
+  read-part e n =
+      let d : drop at s ≡ stateRecords part fs ++ (arcRecords first (names ls) ls ++ R) = e ∙ append-assoc (stateRecords part fs) (arcRecords first (names ls) ls) R in
+      let l = records-length part fs in
+      let f : drop (at + stateSize * length fs) s ≡ arcRecords first (names ls) ls ++ R
+      = sym (drop-drop (stateSize * length fs) at s) ∙ rw (d, ← l) (drop-append-seam (stateRecords part fs) (arcRecords first (names ls) ls ++ R)) in
+      let y : at + stateSize * length fs + arcSize * arcCount ls ≡ at + needed ls = omega arith in
+      read-states part fs s at b (arcRecords first (names ls) ls ++ R) d (h .some) (h .states) (h .low) (all-flagged ls (names ls)) (arcCount ls + n)
+      ∙ read-arcs first (names ls) part ls s (at + stateSize * length fs) (addStates b at part fs) R f (h .some) (h .arcs) given (named-from [] ls) (h .symbols) n
+      ∙ ap (λ (m : ℕ). readFrom n s m (withPart b at part ls)) y

@@ -15,22 +15,12 @@ use Rattle.book.specs.declared.Written.{Written}
 use Rattle.att.specs.declared.Known.{Known}
 use Rattle.att.specs.declared.Survey.{Survey}
 use Rattle.att.specs.declared.Plan.{Plan}
-use Rattle.att.proofs.Filling.{filled-length, filled-trans, records-length, fresh-length, fresh-some, fresh-top}
+use Rattle.att.proofs.Filling.{filled-length, filled-trans, records-length, fresh-length, fresh-more}
 use Rattle.att.proofs.Flags.{flags-long, arcs-long}
 use Rattle.att.proofs.Answers.{Accepting, accepting, answer-states, answer-good, answer-part}
 
 abbrev reply-of : Written → ℕ
 reply-of r = r .reply
-
-pub fresh-room : (n : ℕ) → n ≤ 65 → length (fresh n) ≤ 65
-unfolding fresh
-fresh-room zero h = omega arith
-fresh-room (suc n) h = let l = length-replicate {A = ℕ} n 0 in omega arith
-
-pub fresh-more : (n : ℕ) → n ≤ length (fresh n)
-unfolding fresh
-fresh-more zero = omega arith
-fresh-more (suc n) = let l = length-replicate {A = ℕ} n 0 in omega arith
 
 module _ (s : List ℕ) (first room : ℕ) (v : Survey) (g : Surveyed (readText s) v) where
   pub survey-room : v .reply ≡ 0 → v .known .count ≤ 65

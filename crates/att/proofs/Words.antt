@@ -7,18 +7,17 @@ use mathlib.Core.Bool as B
 use native.Mathlib.Omega.{arith}
 use native.Mathlib.Decide.{decLt, ℕ-discrete}
 use lib.Dec.{eqb, leb, ltb}
-use lib.ListN.{length, getD}
+use lib.ListN.{length, getD, List·getD-eq-default}
 use borrow.Author.Tests.{eq-eqb, ne-eqb, le-leb, lt-leb, lt-ltb, le-ltb}
 use Rattle.book.specs.Format.{startFlag, acceptFlag}
 use Rattle.book.specs.Reading.{State, Arc, Book}
-use Rattle.book.specs.Language.{any, upFrom, opens, leads, stateOf, flagged, isStart, isAccept, someState, accepts}
+use Rattle.book.specs.Language.{any, upFrom, opens, leads, noState, stateOf, flagged, isStart, isAccept, someState, accepts}
 use Rattle.att.specs.Text.{Said, arc, final, idx, add, addLine, namesFrom, names, isFinal, accept, flagsFrom, flags, stateCount}
 use Rattle.att.specs.Words.{through, textFrom, firstState, textWords}
 use Rattle.att.specs.Placed.{mine, leaves, partArc, partArcs, Holds}
 use Rattle.att.proofs.Names.{idx-here, idx-there, idx-le, add-in, add-new, add-longer}
 use Rattle.att.proofs.Appearing.{In, in-append, in-add, in-keep, in-names}
-use Rattle.att.proofs.Flags.{flags-long}
-use Rattle.att.proofs.Planning.{fresh-more}
+use Rattle.att.proofs.Flags.{flags-long, names-few}
 use Rattle.att.proofs.Filling.{fresh-some}
 use Rattle.att.proofs.Some.{any-ext, any-append, any-none, any-apart, any-swap, any-one}
 
@@ -140,8 +139,12 @@ module _ (b : Book) (r k first : ℕ) (ls : List Said) (h : Holds b r k first ls
   abbrev S : List ℕ
   S = names ls
 
-  enough : length S ≤ stateCount ls
-  enough = let a = flags-long ls S in let d = fresh-more (length S) in omega arith
+  -- past the last state there is none with a flag
+  has-none : (s flag : ℕ) → flagged flag 0 ≡ false → length (b .states) ≤ s
+      → (eqb (stateOf b s .rule) r && (eqb (stateOf b s .part) k && flagged flag (stateOf b s .flags))) ≡ false
+  has-none s flag z l =
+      let e : flagged flag (stateOf b s .flags) ≡ false = ap (λ (st : State). flagged flag (st .flags)) (List·getD-eq-default (b .states) noState l) ∙ z in
+      rw (e, B.and-false (eqb (stateOf b s .part) k)) (B.and-false (eqb (stateOf b s .rule) r))
 
   some : 1 ≤ stateCount ls
   some = let a = flags-long ls S in let d = fresh-some (length S) in omega arith
@@ -163,13 +166,13 @@ module _ (b : Book) (r k first : ℕ) (ls : List Said) (h : Holds b r k first ls
   accept-is : (p : ℕ) → In S p → isAccept b r k (first + idx S p) ≡ isFinal ls p
   unfolding isAccept
   accept-is p m =
-      let e = enough in
+      let e = names-few ls in
       let l : idx S p < stateCount ls = omega arith in
       has-own (idx S p) acceptFlag l ∙ ap (flagged acceptFlag) (flag-at ls S p m) ∙ accept-flag (idx S p) (isFinal ls p)
 
   accept-top : (q : ℕ) → length (b .states) ≤ q → isAccept b r k q ≡ false
-  unfolding isAccept
-  accept-top q l = let e = h .room in has-other q acceptFlag (h .above q (omega arith))
+  unfolding isAccept flagged
+  accept-top q l = has-none q acceptFlag refl l
 
   abbrev acc : ℕ → Bool
   acc = isAccept b r k
@@ -180,7 +183,7 @@ module _ (b : Book) (r k first : ℕ) (ls : List Said) (h : Holds b r k first ls
     where
       by-case : Dec (x .from ≡ first + idx S p) → (opens x (first + idx S p) a && ends (b .arcs) acc w (x .to)) ≡ false
       by-case (yes q) =
-          let n = enough in
+          let n = names-few ls in
           let i : first ≤ x .from = omega arith in
           let j : x .from < first + stateCount ls = omega arith in
           let z : true ≡ false = sym (simp (le-leb first (x .from) i, lt-ltb (x .from) (first + stateCount ls) j)) ∙ e in cc
@@ -255,6 +258,10 @@ module _ (b : Book) (r k first : ℕ) (ls : List Said) (h : Holds b r k first ls
   unfolding isStart
   not-mine s e = has-other b r k first ls h s startFlag e
 
+  start-none : (s : ℕ) → length (b .states) ≤ s → isStart b r k s ≡ false
+  unfolding isStart flagged
+  start-none s l = has-none b r k first ls h s startFlag refl l
+
   flag-start : (s i : ℕ) → s ≡ first + i → i < stateCount ls → flagged startFlag (getD (flags ls (names ls)) i 0) ≡ false → isStart b r k s ≡ false
   unfolding isStart
   flag-start s i e l z = rw e (has-own b r k first ls h i startFlag l ∙ z)
@@ -262,9 +269,13 @@ module _ (b : Book) (r k first : ℕ) (ls : List Said) (h : Holds b r k first ls
   start-other : (s : ℕ) → (s ≡ first → ⊥) → isStart b r k s ≡ false
   start-other s n = by-case (decLt s first) (decLt s (first + stateCount ls))
     where
+      past : first + stateCount ls ≤ s → Dec (s < length (b .states)) → isStart b r k s ≡ false
+      past o (yes l) = not-mine s (h .above s o l)
+      past o (no l) = start-none s (omega (arith, l))
+
       by-case : Dec (s < first) → Dec (s < first + stateCount ls) → isStart b r k s ≡ false
       by-case (yes m) d = not-mine s (h .below s m)
-      by-case (no m) (no d) = not-mine s (h .above s (omega (arith, d)))
+      by-case (no m) (no d) = past (omega (arith, d)) (decLt s (length (b .states)))
       by-case (no m) (yes d) =
           let i = s - suc first in
           let e : s ≡ first + suc i = omega (arith, m, n) in

@@ -52,7 +52,7 @@ pub record Holds (b : Book) (r part first : ℕ) (ls : List Said) : Type 0 where
   pub of : (i : ℕ) → i < stateCount ls → stateOf b (first + i) .part ≡ part
   pub flag : (i : ℕ) → i < stateCount ls → stateOf b (first + i) .flags ≡ getD (flags ls (names ls)) i 0
   pub below : (s : ℕ) → s < first → mine b r part s ≡ false
-  pub above : (s : ℕ) → first + stateCount ls ≤ s → mine b r part s ≡ false
+  pub above : (s : ℕ) → first + stateCount ls ≤ s → s < length (b .states) → mine b r part s ≡ false
   pub early : List Arc
   pub late : List Arc
   pub arcs : b .arcs ≡ early ++ (partArcs first (names ls) ls ++ late)

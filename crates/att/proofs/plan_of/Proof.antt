@@ -1,6 +1,7 @@
 use native.Mathlib.Omega.{arith}
 use borrow.Author.Needs.{needs}
-use Rattle.att.proofs.Planning.{fresh-room, survey-room, planned-refused, planned-good}
+use Rattle.att.proofs.Filling.{fresh-room}
+use Rattle.att.proofs.Planning.{survey-room, planned-refused, planned-good}
 use Rattle.att.proofs.plan_of.Statement.{statement}
 use Rattle.att.proofs.plan_of.Tie as tie
 use Rattle.att.proofs.plan_of.Reads as reads
