@@ -1,6 +1,6 @@
 /* Qafrendi for C: context rule books over the tapes of swimming touch pads.
  *
- * Link target/staticlib/libdeck.a (`rt staticlib deck`; x86-64 Linux). The six functions are proved: for any bytes they end, answer
+ * Link target/staticlib/libdeck.a (`rt staticlib deck`; x86-64 Linux). The seven functions are proved: for any bytes they end, answer
  * what the scope document says, read and write nothing outside the buffers that they are lent, and keep nothing between calls. No
  * heap, no locks, no globals: calls on different buffers may run at once.
  *
@@ -18,6 +18,8 @@
  *
  * A heat: 16 first, nothing written; then 1 to 8, 11, 13, 14 for the whole call; then lane by lane 17, 9, 10, 12, 15.
  *
+ * An import: 5 for the part first; then lines from the front, in one line 20, 18, 19; after the text 21, 15. None of them writes anything.
+ *
  * No call uses more than QAFRENDI_STACK bytes of stack, its arguments and return address among them, and none recurses: measured on the
  * worst inputs known and held by the tests (`bench/run stack` prints what each function uses).
  */
@@ -31,9 +33,12 @@
 extern "C" {
 #endif
 
-/* The limits, and what is enough for every call: the two pieces of the workspace, the scratch, the output of the longest tape, and the stack. */
+/* The limits, and what is enough for every call: the two pieces of the workspace, the scratch, the output of the longest tape, the records of the
+ * largest part, and the stack. */
 enum {
     QAFRENDI_SYMBOLS = 32,
+    QAFRENDI_MOST_STATES = 64,
+    QAFRENDI_MOST_ARCS = 512,
     QAFRENDI_LONGEST_WORD = 8,
     QAFRENDI_LONGEST_TAPE = 4096,
     QAFRENDI_MOST_SETS = 256,                                     /* a side */
@@ -42,6 +47,7 @@ enum {
     QAFRENDI_SCRATCH = QAFRENDI_LONGEST_TAPE + 1,
     /* 9 n + 8: a longest word put in at each position, the tape's end among them, and each symbol kept */
     QAFRENDI_LONGEST_OUT = QAFRENDI_LONGEST_WORD * (QAFRENDI_LONGEST_TAPE + 1) + QAFRENDI_LONGEST_TAPE,
+    QAFRENDI_LONGEST_PART = 3 * QAFRENDI_MOST_STATES + 5 * QAFRENDI_MOST_ARCS, /* a state's record has 3 bytes, an arc's 5 */
     QAFRENDI_LINE_WORDS = 6,
     QAFRENDI_MOST_LANES = 10,
     QAFRENDI_STACK = 2048
@@ -54,7 +60,8 @@ enum {
     QAFRENDI_UNKNOWN_KIND = 2,     /* unknown kind                                                         offset */
     QAFRENDI_TOO_MANY = 3,         /* 17th rule, 65th state or 513th arc                                   offset */
     QAFRENDI_NO_RULE = 4,          /* state, arc or end before any rule                                    offset */
-    QAFRENDI_BAD_FIELD = 5,        /* a field outside its range, a symbol above 31, lowest above highest   offset */
+    QAFRENDI_BAD_FIELD = 5,        /* a field outside its range, a symbol above 31, lowest above highest   offset
+                                      of an import: a part above 2                                         0 */
     QAFRENDI_BAD_ARC = 6,          /* an arc names a state not yet given in the latest rule, or two parts  offset */
     QAFRENDI_EMPTY_FOCUS = 7,      /* retired, and never given again: a focus may be empty                 */
     QAFRENDI_AFTER_END = 8,        /* a byte follows the end record                                        its offset */
@@ -64,9 +71,13 @@ enum {
     QAFRENDI_SHORT_SCRATCH = 12,   /* scratch shorter than tape_length + 1                                 0 */
     QAFRENDI_MANY_LEFT_SETS = 13,  /* more than 256 left sets                                              0 */
     QAFRENDI_MANY_RIGHT_SETS = 14, /* more than 256 right sets                                             0 */
-    QAFRENDI_NO_ROOM = 15,         /* no room for the output or the account                                symbols or words needed */
+    QAFRENDI_NO_ROOM = 15,         /* no room for the output, the account or the records                   symbols, words or bytes needed */
     QAFRENDI_MANY_LANES = 16,      /* more than ten lanes                                                  0 */
-    QAFRENDI_OUTSIDE = 17          /* a lane's stretch leaves the common buffer                            0 */
+    QAFRENDI_OUTSIDE = 17,         /* a lane's stretch leaves the common buffer                            0 */
+    QAFRENDI_BAD_LINE = 18,        /* a line that is no arc and no final state, a state above 65,535       that line's offset in the text */
+    QAFRENDI_BAD_LABEL = 19,       /* a label 0 or above 32                                                that line's offset */
+    QAFRENDI_NO_ACCEPTOR = 20,     /* a line of two or four fields, as with weights or of a transducer     that line's offset */
+    QAFRENDI_LARGE_PART = 21       /* more than 512 arcs, or a state number above 63                       0 */
 };
 
 /* The words of a line of an account, in their order. */
@@ -123,6 +134,12 @@ typedef struct {
     size_t place;
 } qafrendi_heated;
 
+/* The answer of a function that writes records: how many bytes of them, 0 on every refusal. */
+typedef struct {
+    uint8_t reply;
+    size_t place, length;
+} qafrendi_written;
+
 /* CHECK: whether the bytes are a book, and how many rules, states and arcs it has. Replies 0 to 8.
  * Needs nothing, writes nothing. */
 qafrendi_checked qafrendi_check(const uint8_t *book, size_t book_length);
@@ -138,7 +155,7 @@ qafrendi_built qafrendi_build(
 
 /* REWRITE: the tape with each taken stretch replaced by its rule's word; the output's length and the number of stretches taken. Where a rule's
  * focus is empty its word is put in and nothing is removed: between two symbols, before the first, after the last.
- * All replies.
+ * Replies 0 to 15.
  * Needs the workspace as BUILD does (it builds it from the book, whatever stands there), scratch of tape_length + 1 elements or
  * more, and room for the output: tape_length symbols where no word is longer than its stretch, never more than 9 * tape_length + 8.
  * Writes the workspace; scratch 0 to tape_length, the number of the right set at each position; and, accepted, the first `length`
@@ -155,7 +172,7 @@ qafrendi_rewritten qafrendi_rewrite(
     uint8_t *out, size_t out_length,
     uint16_t *origins, size_t origins_length);
 
-/* ACCOUNT: every stretch that any rule could have replaced, and what became of it; the number of candidates. All replies.
+/* ACCOUNT: every stretch that any rule could have replaced, and what became of it; the number of candidates. Replies 0 to 15.
  * Needs workspace and scratch as REWRITE does, and QAFRENDI_LINE_WORDS words a candidate.
  * Writes workspace and scratch as REWRITE does, and, accepted, the first QAFRENDI_LINE_WORDS * candidates words of lines: a line a
  * candidate, in the order of start, end, rule. Start and end are equal where nothing would be removed.
@@ -192,6 +209,22 @@ qafrendi_heated qafrendi_heat(
     uint8_t *scratch, size_t scratch_length,
     uint8_t *out, size_t out_length,
     uint16_t *origins, size_t origins_length);
+
+/* IMPORT: the state and arc records of one part (0 left, 1 focus, 2 right) of a rule, from a text in the AT&T form that OpenFst has for acceptors;
+ * how many bytes they have. The part accepts exactly the words of the text. Replies 0, 5, 15, 18 to 21.
+ * Each line of the text ends with a newline and has decimal numbers with a tab between two: source, destination, label of an arc; or one final state.
+ * The first state of the first line is the start. Label 0 is the empty word, so label k is symbol k - 1. Leading zeros do no harm, nor does a state that is
+ * named final twice. An empty text is one state with flags 0, which accepts no word.
+ * The states are numbered from `first` by first appearance, so a book has the records after a rule record, with `first` states before them in the whole
+ * book. They stand together: the states, then the arcs in the order of the text.
+ * 20 is given by the number of fields alone, whatever stands in them, also where the newline is missing. 18 is for every other line that is not as
+ * above: a missing newline, an empty line, a carriage return, a sign, a blank, five or more fields, a state above 65,535, however long.
+ * Needs room for the records: QAFRENDI_LONGEST_PART bytes are always enough.
+ * Writes, accepted, the first `length` elements of out. Never touches the text, nor the elements past those. */
+qafrendi_written qafrendi_import(
+    const uint8_t *text, size_t text_length,
+    uint8_t part, uint8_t first,
+    uint8_t *out, size_t out_length);
 
 #ifdef __cplusplus
 }
