@@ -23,7 +23,7 @@
     } while (0)
 #endif
 
-enum { CHECK = 1, BUILD, REWRITE, ACCOUNT, SHOW, HEAT, OPERATIONS, REFUSED = 255 };
+enum { CHECK = 1, BUILD, REWRITE, ACCOUNT, SHOW, HEAT, IMPORT, OPERATIONS, REFUSED = 255 };
 
 /* In the order of a request's lengths, which is that of every operation's parameters. */
 enum { BOOK, TAPE, ROWS, SETS, SCRATCH, OUT, ORIGINS, LINES, BUFFERS };
@@ -47,14 +47,15 @@ static qafrendi_lane lanes[LANES];
 
 /* What the request at hand says. */
 static size_t length[BUFFERS]; /* elements, never more than the longest */
-static size_t line;
+static size_t line;            /* for IMPORT, the part in its lowest byte and the first number in the next */
 
 /* A buffer as an operation takes it: a pointer and the length. */
 #define LENT_BOOK book, length[BOOK]
 #define LENT_TAPE tape, length[TAPE]
 #define LENT_WORKSPACE rows, length[ROWS], sets, length[SETS]
 #define LENT_SCRATCH scratch, length[SCRATCH]
-#define LENT_OUTPUT out, length[OUT], origins, length[ORIGINS]
+#define LENT_OUT out, length[OUT]
+#define LENT_OUTPUT LENT_OUT, origins, length[ORIGINS]
 #define LENT_LINES lines, length[LINES]
 
 struct answer {
@@ -105,6 +106,13 @@ static struct answer heat(void)
     return (struct answer){.reply = r.reply, .place = r.place};
 }
 
+static struct answer import(void)
+{
+    qafrendi_written r;
+    ASK(r, qafrendi_import, LENT_BOOK, line & 255, line >> 8 & 255, LENT_OUT);
+    return (struct answer){.reply = r.reply, .place = r.place, .counts = {r.length}};
+}
+
 /* Buffers, one bit each. */
 enum {
     BROUGHT = 1 << BOOK | 1 << TAPE,
@@ -124,6 +132,7 @@ static const struct {
     [ACCOUNT] = {account, BROUGHT, PASSES | 1 << LINES},
     [SHOW] = {show, BROUGHT | 1 << LINES, 0},
     [HEAT] = {heat, BROUGHT, PASSES | OUTPUT},
+    [IMPORT] = {import, BROUGHT, 1 << OUT},
 };
 
 /* False where the input ends before. */
