@@ -1,5 +1,5 @@
-/* The house book and the lane-four wave through the C face: every function once, then what three refusals leave, the times of a touch, and a lap mark
- * that is put in. */
+/* The house book and the lane-four wave through the C face: every function once, with what three refusals leave, the times of a touch, a lap mark that is
+ * put in, and a touch from a drawing. */
 #include <stdio.h>
 #include <stdlib.h>
 
@@ -166,5 +166,26 @@ int main(void)
         printf("lap line %zu: rule %d from %zu to %zu, verdict %d\n", line, lines[QAFRENDI_LINE_WORDS * line + QAFRENDI_RULE], s.start, s.end,
                lines[QAFRENDI_LINE_WORDS * line + QAFRENDI_VERDICT]);
     }
+
+    /* the book of the touch again, its focus from a text in OpenFst's form, where label 3 is symbol 2, the press: in front stand the rule and its left
+     * part, state 0, so the focus begins with state 1; behind it the right part and the end */
+    static const uint8_t drawing[] = "0\t1\t3\n1\t1\t4\n1\t2\t5\n2\n", weighted[] = "0\t1\t3\n1\t1\t4\n1\t2\t5\n2\t0.5\n";
+    static const uint8_t behind[] = {2, 2, 3, 4};
+    enum { FRONT = 13, FOCUS = 1 };
+    static uint8_t drawn[FRONT + QAFRENDI_LONGEST_PART + sizeof behind] = {1, 2, 2, 4, 0, 0, 0, 0, 0, 0, 2, 0, 3};
+    qafrendi_written i = qafrendi_import(drawing, sizeof drawing - 1, FOCUS, 1, drawn + FRONT, QAFRENDI_LONGEST_PART);
+    say("import", i.reply, QAFRENDI_ACCEPTED, i.place);
+    printf(", %zu bytes:", i.length);
+    for (size_t k = 0; k < i.length; k++)
+        printf(" %d", drawn[FRONT + k]);
+    printf("\n");
+    for (size_t k = 0; k < sizeof behind; k++)
+        drawn[FRONT + i.length + k] = behind[k];
+    w = rewrite_by(drawn, FRONT + i.length + sizeof behind, touch, sizeof touch, OUT);
+    say("drawn touch", w.reply, QAFRENDI_ACCEPTED, w.place);
+    print_times(w, seconds);
+    i = qafrendi_import(weighted, sizeof weighted - 1, FOCUS, 1, drawn + FRONT, QAFRENDI_LONGEST_PART);
+    say("weighted drawing", i.reply, QAFRENDI_NO_ACCEPTOR, i.place);
+    printf(", %zu bytes\n", i.length);
     return 0;
 }
