@@ -8,8 +8,8 @@
  * The same caller calls a function that does nothing; the difference of the two depths is what the operation takes below its return
  * address. What is reserved at the very bottom and never written is not seen.
  *
- * stack DIR: DIR holds what src/bin/inputs.rs writes. For x86-64, as the library is. It ends with 'N passed, M failed', an operation each, and the
- * status is 0 only if none has failed: the same library has the same figures on every run. */
+ * stack DIR: DIR holds what src/bin/inputs.rs writes; the texts of IMPORT are made here. For x86-64, as the library is. It ends with 'N passed, M
+ * failed', an operation each, and the status is 0 only if none has failed: the same library has the same figures on every run. */
 #include <stdio.h>
 #include <stdlib.h>
 #include <string.h>
@@ -20,9 +20,10 @@ enum {
     STACK = 1 << 16,
     REGISTERS = 6,                            /* for arguments */
     WORD = 8,                                 /* bytes */
-    ROOM = 1 << 13,                           /* more than any book or tape of the inputs has */
+    ROOM = 1 << 14,                           /* more than any book or tape of the inputs has, or any text */
     LINES = 16 * (QAFRENDI_LONGEST_TAPE + 1), /* every place of the longest tape by every rule; the dense book's account has more and is refused */
     HEAT_OUT = QAFRENDI_MOST_LANES * QAFRENDI_LONGEST_OUT,
+    HIGHEST = 65535,                          /* state of a text, whose names count down from it, so that they are long */
     TEXT = 1 << 12
 };
 
@@ -64,6 +65,8 @@ static uint8_t out[HEAT_OUT];
 static uint16_t origins[HEAT_OUT];
 static uint16_t lines[QAFRENDI_LINE_WORDS * LINES];
 static qafrendi_lane lanes[QAFRENDI_MOST_LANES + 1];
+static uint8_t text[ROOM];
+static size_t text_length;
 
 static void check(function *f)
 {
@@ -129,6 +132,20 @@ static void heat(function *f)
             scratch, heats[i].scratch, out, heats[i].out, origins, heats[i].out);
 }
 
+/* The text as each part; from state 1 on, where 64 states are too many: 21; as no part: 5; with no room: 15. */
+static void import(function *f)
+{
+    static const struct {
+        uint8_t part, first;
+        size_t out;
+    } imports[] = {
+        {0, 0, QAFRENDI_LONGEST_PART}, {1, 0, QAFRENDI_LONGEST_PART}, {2, 0, QAFRENDI_LONGEST_PART},
+        {2, 1, QAFRENDI_LONGEST_PART}, {3, 0, QAFRENDI_LONGEST_PART}, {1, 0, 0},
+    };
+    for (size_t i = 0; i < sizeof imports / sizeof *imports; i++)
+        ((__typeof__(qafrendi_import) *)f)(text, text_length, imports[i].part, imports[i].first, out, imports[i].out);
+}
+
 /* One row: the operation, its arguments with the place of a long answer, and its stack at the worst input so far. */
 static struct operation {
     const char *name;
@@ -144,9 +161,32 @@ static struct operation {
     {"account", 13, account, (function *)qafrendi_account, 0, "every input"},
     {"show", 4, show, (function *)qafrendi_show, 0, "every input"},
     {"heat", 16, heat, (function *)qafrendi_heat, 0, "every input"},
+    {"import", 7, import, (function *)qafrendi_import, 0, "every text"},
 };
 
-enum { OPERATIONS = sizeof operations / sizeof *operations };
+/* IMPORT comes last, for its inputs are texts. */
+enum { OPERATIONS = sizeof operations / sizeof *operations, IMPORT = OPERATIONS - 1 };
+
+/* So many arcs that run through so many states, each of which is final; then a line more. */
+static const struct {
+    const char *name;
+    unsigned states, arcs;
+    const char *more;
+} texts[] = {
+    {"a text of 64 states, 512 arcs", QAFRENDI_MOST_STATES, QAFRENDI_MOST_ARCS, ""},
+    {"a text of one state, 512 arcs", 1, QAFRENDI_MOST_ARCS, ""},
+    {"a text of one arc", 2, 1, ""},
+    {"the empty text", 0, 0, ""},
+    {"a text of 65 states", QAFRENDI_MOST_STATES + 1, QAFRENDI_MOST_ARCS, ""},                   /* 21 */
+    {"a text of 513 arcs", QAFRENDI_MOST_STATES, QAFRENDI_MOST_ARCS + 1, ""},                    /* 21 */
+    {"a text with a weight", QAFRENDI_MOST_STATES, QAFRENDI_MOST_ARCS, "1\t0\n"},                /* 20 */
+    {"a text without its last newline", QAFRENDI_MOST_STATES, QAFRENDI_MOST_ARCS, "1"},          /* 18 */
+    {"a text with a state too high", QAFRENDI_MOST_STATES, QAFRENDI_MOST_ARCS, "1\t65536\t1\n"}, /* 18 */
+    {"a text with a label too high", QAFRENDI_MOST_STATES, QAFRENDI_MOST_ARCS, "1\t1\t33\n"},    /* 19 */
+    {"a weight alone", 0, 0, "1\t0\n"},                                                          /* 20 */
+    {"an empty line alone", 0, 0, "\n"},                                                         /* 18 */
+    {"label 0 alone", 0, 0, "0\t0\t0\n"},                                                        /* 19 */
+};
 
 /* How deep the call goes. */
 static size_t depth(caller *call, function *f)
@@ -217,8 +257,42 @@ static void measure_all(const char *folder, const char *name)
     tape_length = load(tape, folder, name, ".tape");
     for (size_t i = 0; i < sizeof lanes / sizeof *lanes; i++)
         lanes[i].length = tape_length;
-    for (int i = 0; i < OPERATIONS; i++)
+    for (int i = 0; i < IMPORT; i++)
         measure(&operations[i], name);
+}
+
+static void add(const char *line)
+{
+    for (; *line; line++)
+        text[text_length++] = (uint8_t)*line;
+}
+
+static void add_arc(unsigned source, unsigned destination, unsigned symbol)
+{
+    char line[TEXT];
+    snprintf(line, TEXT, "%u\t%u\t%u\n", HIGHEST - source, HIGHEST - destination, symbol + 1);
+    add(line);
+}
+
+static void add_final(unsigned state)
+{
+    char line[TEXT];
+    snprintf(line, TEXT, "%u\n", HIGHEST - state);
+    add(line);
+}
+
+static void measure_texts(void)
+{
+    for (size_t i = 0; i < sizeof texts / sizeof *texts; i++) {
+        unsigned states = texts[i].states;
+        text_length = 0;
+        for (unsigned k = 0; k < texts[i].arcs; k++)
+            add_arc(k % states, (k + 1) % states, k % QAFRENDI_SYMBOLS);
+        for (unsigned k = 0; k < states; k++)
+            add_final(k);
+        add(texts[i].more);
+        measure(&operations[IMPORT], texts[i].name);
+    }
 }
 
 int main(int count, char **words)
@@ -232,6 +306,7 @@ int main(int count, char **words)
         measure_all(words[1], name);
     }
     fclose(names);
+    measure_texts();
     printf("STACK of the library that is delivered (rt staticlib deck, x86-64): bytes, on a painted stack\n");
     printf("%-10s%8s%22s%8s   deepest at\n", "", "own", "arguments and return", "sum");
     int passed = 0;
