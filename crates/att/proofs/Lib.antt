@@ -14,4 +14,5 @@ pub mod Words
 pub mod Symbols
 pub mod Passing
 pub mod Taking
+pub mod Keeping
 pub mod Joining

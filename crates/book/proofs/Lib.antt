@@ -15,6 +15,7 @@ pub mod Retired
 pub mod Sound
 pub mod Walk
 pub mod Fronts
+pub mod Grown
 pub mod Records
 pub mod Placing
 pub mod Masking
