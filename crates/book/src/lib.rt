@@ -80,10 +80,14 @@ pub struct Checked {
     pub arcs: usize,
 }
 
-// The answer of an operation that writes records: the reply, its place, and how many bytes were written; 0 on a refusal.
+// The answer of the operations that write records.
+#[repr(C)]
 pub struct Written {
+    // 0, or the number of the refusal.
     pub reply: u8,
+    // Where the input was refused, with 15 the bytes needed, else 0.
     pub place: usize,
+    // How many bytes stand at the front of the output; 0 with every reply but 0.
     pub length: usize,
 }
 

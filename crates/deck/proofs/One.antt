@@ -21,6 +21,8 @@ use Rattle.deck.proofs.qafrendi_account.Kinds as account-kinds
 use Rattle.deck.proofs.qafrendi_account.Reads as account-reads
 use Rattle.deck.proofs.qafrendi_show.Kinds as show-kinds
 use Rattle.deck.proofs.qafrendi_show.Reads as show-reads
+use Rattle.deck.proofs.qafrendi_import.Kinds as import-kinds
+use Rattle.deck.proofs.qafrendi_import.Reads as import-reads
 use Rattle.deck.proofs.qafrendi_heat as c-heat
 
 pub one-check : Determined 1 check-kinds.ps check-kinds.r check-reads.Post
@@ -62,3 +64,7 @@ pub one-heat : {M : Type 1} (𝓤 : URA M) (H : Heap 𝓤) (A : Atoms 𝓤) (mem
 one-heat 𝓤 H A mem run κs a =
     let e = heat.one-heat 𝓤 H A mem run κs a in
     record { P = e .P; ensured = e .ensured; one = e .one }
+
+-- the answer and the output
+pub one-import : Determined 2 import-kinds.ps import-kinds.r import-reads.Post
+one-import κs a x y v w p q = let e = p ∙ sym q in (λ i. e i .answer, λ i. (tt, (tt, (tt, (e i .out, tt)))))

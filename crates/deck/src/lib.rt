@@ -5,6 +5,7 @@ ghost use Rattle.sets.specs.Workspace.{buildLeaves, buildDef};
 ghost use Rattle.rewriter.specs.Replies.{rewriteLeaves, rewriteDef, accountLeaves, accountDef};
 ghost use Rattle.rewriter.specs.Show.{boundsOf};
 ghost use Rattle.heat.specs.Heats.{heatLeaves, heatDef};
+ghost use Rattle.att.specs.Text.{importLeaves, importDef};
 ghost use Rattle.deck.specs.Plain.{plainChecked, plainBuilt, plainRewritten, plainAccounted, plainBounds};
 
 // CHECK's answer.
@@ -149,4 +150,12 @@ pub extern "C" fn qafrendi_heat(
         (now (scratch .entry)) (now (out .entry)) (now (origins .entry)) ⌝ }
 {
     heat::heat(book, tapes, lanes, rows, sets, scratch, out, origins)
+}
+
+// The answer is the operation's own type, as that of a heat.
+#[no_mangle]
+pub extern "C" fn qafrendi_import(text: &[u8], part: u8, first: u8, out: &mut [u8]) -> book::Written
+    ensures { λ r. ⌜ importLeaves r (now (out .exit)) ≡ importDef (now (text .entry)) part first (now (out .entry)) ⌝ }
+{
+    att::import(text, part, first, out)
 }
