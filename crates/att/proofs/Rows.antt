@@ -9,9 +9,9 @@ use lib.Dec.{eqb, leb, ltb}
 use lib.ListN.{length, take, drop, length-drop}
 use lib.Seq.{take-all}
 use borrow.Author.Tests.{eq-eqb, ne-eqb, le-leb, lt-leb, lt-ltb, le-ltb}
-use Rattle.att.specs.Fields.{before, fieldCount, field1, field2, field3, isNumber, value}
+use Rattle.att.specs.Fields.{before, fieldCount, field1, field2, field3, isNumber, value, mostState}
 use Rattle.att.specs.Reading.{labels, isState, faulty, finalLine, arcLine, pickLine, lineIn, lineOf, lineAt}
-use Rattle.att.specs.Numbers.{capped, readNumber, finalOf, arcOf}
+use Rattle.att.specs.Numbers.{noNumber, capped, readNumber, finalOf, arcOf}
 use Rattle.att.specs.declared.reading.Line.{Line}
 use Rattle.att.specs.declared.reading.Line.the-variants.{Final, Arc, Faulty}
 use Rattle.att.proofs.Parting.{capped-small, capped-big, front-length, front-is, before-short}
@@ -89,14 +89,58 @@ module _ (s : List ℕ) (at : ℕ) (inside : at < length s) (e : ℕ) (q : e ≡
       let z : length (drop at s) ≤ length (lineOf (drop at s)) = rw (← line-e, ← rest-of s at) h in
       rw (line-front) (simp (lt-leb _ _ inside, le-ltb _ _ z))
 
--- the tests on the number of fields
-module _ (l : List ℕ) (next n : ℕ) (q : n ≡ fieldCount l) (two : n ≡ 2 → ⊥) (four : n ≡ 4 → ⊥) where
-  line-fields : (t : Bool) → lineIn l t next ≡ faulty (not t) 18 (pickLine (eqb n 1) (finalLine l next) (pickLine (eqb n 3) (arcLine l next) (Faulty 18)))
+-- ---- the ways out of `line_in`, by the number of fields
+module _ (l : List ℕ) (t : Bool) (next n : ℕ) (q : n ≡ fieldCount l) where
+  pub line-two : n ≡ 2 → Faulty 20 ≡ lineIn l t next
   unfolding lineIn
-  line-fields t = rw (← q, ne-eqb n 2 two, ne-eqb n 4 four)
+  line-two h = sym (rw (lineIn, ← q, eq-eqb n 2 h))
 
-  pub line-final : (t : Bool) → t ≡ true → n ≡ 1 → finalLine l next ≡ lineIn l t next
-  line-final t e h = sym (line-fields t ∙ rw (e, eq-eqb n 1 h))
+  pub line-four : (n ≡ 2 → ⊥) → n ≡ 4 → Faulty 20 ≡ lineIn l t next
+  unfolding lineIn
+  line-four two h = sym (rw (lineIn, ← q, ne-eqb n 2 two, eq-eqb n 4 h))
 
-  pub line-arc : (t : Bool) → t ≡ true → (n ≡ 1 → ⊥) → n ≡ 3 → arcLine l next ≡ lineIn l t next
-  line-arc t e k h = sym (line-fields t ∙ rw (e, ne-eqb n 1 k, eq-eqb n 3 h))
+  module _ (two : n ≡ 2 → ⊥) (four : n ≡ 4 → ⊥) where
+    line-fields : lineIn l t next ≡ faulty (not t) 18 (pickLine (eqb n 1) (finalLine l next) (pickLine (eqb n 3) (arcLine l next) (Faulty 18)))
+    unfolding lineIn
+    line-fields = rw (lineIn, ← q, ne-eqb n 2 two, ne-eqb n 4 four)
+
+    pub line-open : t ≡ false → Faulty 18 ≡ lineIn l t next
+    line-open e = sym (line-fields ∙ rw e)
+
+    pub line-final : t ≡ true → n ≡ 1 → finalLine l next ≡ lineIn l t next
+    line-final e h = sym (line-fields ∙ rw (e, eq-eqb n 1 h))
+
+    pub line-arc : t ≡ true → (n ≡ 1 → ⊥) → n ≡ 3 → arcLine l next ≡ lineIn l t next
+    line-arc e k h = sym (line-fields ∙ rw (e, ne-eqb n 1 k, eq-eqb n 3 h))
+
+    pub line-other : t ≡ true → (n ≡ 1 → ⊥) → (n ≡ 3 → ⊥) → Faulty 18 ≡ lineIn l t next
+    line-other e k h = sym (line-fields ∙ rw (e, ne-eqb n 1 k, ne-eqb n 3 h))
+
+-- ---- the ways out of `arc_of`
+module _ (a b k next : ℕ) where
+  pub arc-from : mostState < a → Faulty 18 ≡ arcOf a b k next
+  unfolding arcOf
+  arc-from h = sym (rw (arcOf, lt-ltb mostState a h))
+
+  module _ (low : a ≤ mostState) where
+    pub arc-to : mostState < b → Faulty 18 ≡ arcOf a b k next
+    unfolding arcOf
+    arc-to h = sym (rw (arcOf, le-ltb mostState a low, lt-ltb mostState b h))
+
+    module _ (low′ : b ≤ mostState) where
+      pub arc-none : k ≡ noNumber → Faulty 18 ≡ arcOf a b k next
+      unfolding arcOf
+      arc-none h = sym (rw (arcOf, le-ltb mostState a low, le-ltb mostState b low′, eq-eqb k noNumber h))
+
+      module _ (some : k ≡ noNumber → ⊥) where
+        pub arc-empty : k ≡ 0 → Faulty 19 ≡ arcOf a b k next
+        unfolding arcOf
+        arc-empty h = sym (rw (arcOf, le-ltb mostState a low, le-ltb mostState b low′, ne-eqb k noNumber some, eq-eqb k 0 h))
+
+        pub arc-high : (k ≡ 0 → ⊥) → labels < k → Faulty 19 ≡ arcOf a b k next
+        unfolding arcOf
+        arc-high z h = sym (rw (arcOf, le-ltb mostState a low, le-ltb mostState b low′, ne-eqb k noNumber some, ne-eqb k 0 z, lt-ltb labels k h))
+
+        pub arc-whole : (k ≡ 0 → ⊥) → k ≤ labels → Arc a b (k - 1) next ≡ arcOf a b k next
+        unfolding arcOf
+        arc-whole z h = sym (rw (arcOf, le-ltb mostState a low, le-ltb mostState b low′, ne-eqb k noNumber some, ne-eqb k 0 z, le-ltb labels k h))

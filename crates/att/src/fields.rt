@@ -92,11 +92,11 @@ fn more(v: u32, d: u8) -> u32
     ensures { λ r. ⌜ r ≡ capped (v * 10 + (d - digitZero)) ⌝ }
 {
     if MOST_STATE < v {
-        return TOO_HIGH;
+        return TOO_HIGH; // already
     }
     let w = v * 10 + (d - b'0') as u32;
     if MOST_STATE < w {
-        return TOO_HIGH;
+        return TOO_HIGH; // with this digit
     }
     w
 }

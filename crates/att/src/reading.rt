@@ -54,10 +54,10 @@ fn arc_of(a: u32, b: u32, k: u32, next: usize) -> Line
         return Line::Faulty(18);
     }
     if k == 0 {
-        return Line::Faulty(19);
+        return Line::Faulty(19); // the empty word
     }
     if LABELS < k {
-        return Line::Faulty(19);
+        return Line::Faulty(19); // no symbol
     }
     Line::Arc(a as u16, b as u16, (k - 1) as u8, next)
 }
@@ -85,13 +85,13 @@ fn line_in(l: &[u8], ended: bool, next: usize) -> Line
 {
     let n = field_count(l);
     if n == 2 {
-        return Line::Faulty(20);
+        return Line::Faulty(20); // a final state with its weight
     }
     if n == 4 {
-        return Line::Faulty(20);
+        return Line::Faulty(20); // an arc with its weight
     }
     if !ended {
-        return Line::Faulty(18);
+        return Line::Faulty(18); // no newline
     }
     if n == 1 {
         return final_line(l, next);

@@ -14,7 +14,7 @@ refused-requires c κs = search needs
 
 -- src/lib.rt:411:9
 returns : tie.Need-returns
-returns c = c .refused .ensures ∙ sym (answer-arcs _ _ _ _ (c .before .if1 .taken))
+returns c = c .refused .ensures ∙ sym (answer-arcs _ _ _ _ (omega arith))
 
 -- src/lib.rt:413:13
 add-if2 : tie.Need-add-if2
@@ -26,7 +26,7 @@ refused-requires-2 c κs = search needs
 
 -- src/lib.rt:414:9
 returns-2 : tie.Need-returns-2
-returns-2 c = c .refused2 .ensures ∙ sym (answer-states _ _ _ _ (c .before .if2 .taken))
+returns-2 c = c .refused2 .ensures ∙ sym (answer-states _ _ _ _ (omega arith))
 
 -- src/lib.rt:416:17
 mul-bytes : tie.Need-mul-bytes
@@ -46,11 +46,11 @@ refused-requires-3 c κs = search needs
 
 -- src/lib.rt:418:9
 returns-3 : tie.Need-returns-3
-returns-3 c = c .refused3 .ensures ∙ sym (answer-room _ _ _ _ (c .before .before .before .if1 .left) (c .before .before .if2 .left) (c .before .if3 .taken))
+returns-3 c = c .refused3 .ensures ∙ sym (answer-room _ _ _ _ (omega arith) (omega arith) (omega arith))
 
 -- src/lib.rt:406:1
 returns-4 : tie.Need-returns-4
-returns-4 c = sym (answer-good _ _ _ _ (c .before .before .if1 .left) (c .before .if2 .left) (c .if3 .left))
+returns-4 c = sym (answer-good _ _ _ _ (omega arith) (omega arith) (omega arith))
 
 pub judged-spec : {M : Type 1} → statement M
 judged-spec =

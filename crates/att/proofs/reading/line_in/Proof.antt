@@ -1,7 +1,7 @@
-use Rattle.att.proofs.Rows.{line-final, line-arc}
-use mathlib.Core.Path.{_≡_, _∙_, sym}
-use borrow.Author.Tests.{lt-ltb, le-ltb, eq-eqb, ne-eqb, not-false}
-use Rattle.att.specs.Reading.{lineIn}
+use mathlib.Core.Path.{_≡_, _∙_}
+use native.Mathlib.Omega.{arith}
+use borrow.Author.Tests.{not-true, not-false}
+use Rattle.att.proofs.Rows.{line-two, line-four, line-open, line-final, line-arc, line-other}
 use borrow.Author.Needs.{needs}
 use Rattle.att.proofs.reading.line_in.Statement.{statement}
 use Rattle.att.proofs.reading.line_in.Tie as tie
@@ -17,18 +17,15 @@ field-count-requires c κs = search needs
 
 -- src/lib.rt:161:9
 returns : tie.Need-returns
-unfolding lineIn
-returns c = simp (sym (c .before .field-count .ensures), eq-eqb _ _ (c .if1 .taken))
+returns c = line-two _ _ _ _ (c .before .field-count .ensures) (omega arith)
 
 -- src/lib.rt:164:9
 returns-2 : tie.Need-returns-2
-unfolding lineIn
-returns-2 c = simp (sym (c .before .before .field-count .ensures), ne-eqb _ _ (c .before .if1 .left), eq-eqb _ _ (c .if2 .taken))
+returns-2 c = line-four _ _ _ _ (c .before .before .field-count .ensures) (λ e. (let z : ⊥ = omega arith in z)) (omega arith)
 
 -- src/lib.rt:167:9
 returns-3 : tie.Need-returns-3
-unfolding lineIn
-returns-3 c = simp (sym (c .before .before .before .field-count .ensures), ne-eqb _ _ (c .before .before .if1 .left), ne-eqb _ _ (c .before .if2 .left), c .if3 .taken)
+returns-3 c = line-open _ _ _ _ (c .before .before .before .field-count .ensures) (λ e. (let z : ⊥ = omega arith in z)) (λ e. (let z : ⊥ = omega arith in z)) (not-true _ (c .if3 .taken))
 
 -- src/lib.rt:170:9
 final-line-requires : tie.Need-final-line-requires
@@ -37,8 +34,8 @@ final-line-requires c κs = search needs
 -- src/lib.rt:170:9
 returns-4 : tie.Need-returns-4
 returns-4 c =
-    let e = c .before .before .before in
-    c .final-line .ensures ∙ line-final _ _ _ (e .before .before .field-count .ensures) (e .before .if1 .left) (e .if2 .left) _ (not-false _ (c .before .before .if3 .left)) (c .before .if4 .taken)
+    c .final-line .ensures
+    ∙ line-final _ _ _ _ (c .before .before .before .before .before .field-count .ensures) (λ e. (let z : ⊥ = omega arith in z)) (λ e. (let z : ⊥ = omega arith in z)) (not-false _ (c .before .before .if3 .left)) (omega arith)
 
 -- src/lib.rt:173:9
 arc-line-requires : tie.Need-arc-line-requires
@@ -47,15 +44,13 @@ arc-line-requires c κs = search needs
 -- src/lib.rt:173:9
 returns-5 : tie.Need-returns-5
 returns-5 c =
-    let e = c .before .before .before .before in
-    c .arc-line .ensures ∙ line-arc _ _ _ (e .before .before .field-count .ensures) (e .before .if1 .left) (e .if2 .left) _ (not-false _ (c .before .before .before .if3 .left)) (c .before .before .if4 .left) (c .before .if5 .taken)
+    c .arc-line .ensures
+    ∙ line-arc _ _ _ _ (c .before .before .before .before .before .before .field-count .ensures) (λ e. (let z : ⊥ = omega arith in z)) (λ e. (let z : ⊥ = omega arith in z)) (not-false _ (c .before .before .before .if3 .left)) (λ e. (let z : ⊥ = omega arith in z)) (omega arith)
 
 -- src/lib.rt:156:1
 returns-6 : tie.Need-returns-6
-unfolding lineIn
 returns-6 c =
-    let e = c .before .before .before in
-    simp (sym (e .before .before .field-count .ensures), ne-eqb _ _ (e .before .if1 .left), ne-eqb _ _ (e .if2 .left), c .before .before .if3 .left, ne-eqb _ _ (c .before .if4 .left), ne-eqb _ _ (c .if5 .left))
+    line-other _ _ _ _ (c .before .before .before .before .before .field-count .ensures) (λ e. (let z : ⊥ = omega arith in z)) (λ e. (let z : ⊥ = omega arith in z)) (not-false _ (c .before .before .if3 .left)) (λ e. (let z : ⊥ = omega arith in z)) (λ e. (let z : ⊥ = omega arith in z))
 
 pub line-in-spec : {M : Type 1} → statement M
 line-in-spec =
