@@ -145,3 +145,7 @@ pub fresh-more : (n : ℕ) → n ≤ length (fresh n)
 unfolding fresh
 fresh-more zero = omega arith
 fresh-more (suc n) = let l = length-replicate {A = ℕ} n 0 in omega arith
+
+pub put-long : (o : List ℕ) (at : ℕ) (vs : List ℕ) → length (put o at vs) ≡ length o
+unfolding put
+put-long o at vs = length-sets o at vs

@@ -10,6 +10,7 @@ use lib.Dec.{eqb, ltb}
 use lib.ListN.{length, take, drop, set, replicate, length-append, length-set, length-replicate, take-append-drop}
 use lib.Seq.{sets, set-append-left, length-take-le}
 use borrow.Author.Tests.{eq-eqb, ne-eqb}
+use Rattle.book.specs.Format.{acceptFlag, bothFlags}
 use Rattle.att.specs.Text.{Said, arc, final, idx, names, stateCount, arcOne, arcCount, finalFor, isFinal, flagsFrom, flags, stateRecords, arcRecord, arcRecords}
 use Rattle.att.specs.Survey.{fresh, finalFlags}
 use Rattle.att.specs.declared.reading.Line.{Line}
@@ -73,10 +74,17 @@ flags-final-from start ls x (q ∷ S) (one k o) h = by-case (ℕ-discrete q x) (
         let m = idx-there q x S e in
         rw (m, same-flag ls x q (λ z. e (sym z)), f (omega arith), tail (idx S x))
 
-mark-one : (k : ℕ) → mark 1 k ≡ finalFlags k
+pub flags-start : (k : ℕ) → k ≡ 0 → bothFlags ≡ finalFlags k
 unfolding finalFlags
-mark-one zero = refl
-mark-one (suc k) = simp (ne-eqb (suc k) 0 (omega arith))
+flags-start k e = sym (rw (finalFlags, eq-eqb k 0 e))
+
+pub flags-later : (k : ℕ) → (k ≡ 0 → ⊥) → acceptFlag ≡ finalFlags k
+unfolding finalFlags
+flags-later k e = sym (rw (finalFlags, ne-eqb k 0 e))
+
+mark-one : (k : ℕ) → mark 1 k ≡ finalFlags k
+mark-one zero = flags-start 0 refl
+mark-one (suc k) = flags-later (suc k) (omega arith)
 
 pub flags-final : (ls : List Said) (x : ℕ) (S : List ℕ) → Once S → In S x → flags (ls ++ (final x ∷ [])) S ≡ set (flags ls S) (idx S x) (finalFlags (idx S x))
 unfolding flags

@@ -94,11 +94,7 @@ module _ (s : List ℕ) (first room : ℕ) (v : Survey) (g : Surveyed (readText 
 
 pub written-length : (part first : ℕ) (ls : List Said) → length (written part first ls) ≡ needed ls
 unfolding written
-written-length part first ls =
-    let a = length-append (stateRecords part (flags ls (names ls))) (arcRecords first (names ls) ls) in
-    let b = records-length part (flags ls (names ls)) in
-    let c = arcs-long first (names ls) ls in
-    omega arith
+written-length part first ls = rw (length-append, records-length part (flags ls (names ls)), arcs-long first (names ls) ls) (omega arith)
 
 pub import-part : (s : List ℕ) (part first : ℕ) (o : List ℕ) (r : Written) → rightPart < part → r ≡ refusal 5 0 → importLeaves r o ≡ importDef s part first o
 unfolding importDef

@@ -1,14 +1,11 @@
 use Prim.Native.Nat.{ℕ, _+_, _*_, _≤_, _-_}
-use mathlib.Core.Path.{_≡_, _∙_, sym, refl}
+use mathlib.Core.Path.{_≡_, _∙_, sym, refl, ap}
 use mathlib.Core.List.{_∷_}
 use native.Mathlib.Omega.{arith}
 use lib.ListN.{length, replicate}
-use lib.Seq.{length-sets}
-use mathlib.Core.Path.{ap, subst}
-use mathlib.Core.List.{List}
 use Rattle.att.specs.Text.{stateRecords}
 use Rattle.att.specs.Survey.{Filled}
-use Rattle.att.proofs.Filling.{filled-length, filled-self, fresh-some, fresh-length, states-all, left-first, left-none, left-more}
+use Rattle.att.proofs.Filling.{filled-length, filled-self, fresh-some, fresh-length, put-long, states-all, left-first, left-none, left-more}
 use Rattle.att.proofs.put_states.Statement.{statement}
 use Rattle.att.proofs.put_states.Tie as tie
 use Rattle.att.proofs.put_states.Reads as reads
@@ -29,10 +26,7 @@ put-state-requires c κs =
 
 -- src/lib.rt:354:9
 same-length : tie.Need-same-length Inv-loop μ-loop
-same-length c =
-    let a = c .before .before .before .before .before .before in
-    let h : 3 ≤ length (a .args .out .now) = omega (arith, fresh-some (a .args .n), a .pre .1) in
-    filled-length _ _ _ (left-none _ _ (a .args .part) 0 (c .before .before .put-state .ensures) refl h)
+same-length c = ap length (c .before .before .put-state .ensures) ∙ put-long _ _ _
 
 -- src/lib.rt:354:9
 returns : tie.Need-returns Inv-loop μ-loop
