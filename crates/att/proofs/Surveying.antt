@@ -1,13 +1,13 @@
 -- How far the first pass has come.
-use Prim.Native.Nat.{ℕ, zero, suc, _+_, _-_, _≤_, _<_}
+use Prim.Native.Nat.{ℕ, zero, suc, _+_, _-_, _≤_, _<_, _^_}
 use mathlib.Core.Path.{_≡_, refl, ap, sym, _∙_, subst}
 use mathlib.Core.List.{List, [], _∷_, _++_}
-use mathlib.Core.Bool.{Bool, true, false}
+use mathlib.Core.Bool.{Bool, true, false, cond, false≢true}
 use native.Mathlib.Omega.{arith}
 use lib.ListN.{length, take, replicate}
 use Rattle.att.specs.Reading.{lineAt}
 use Rattle.att.specs.Text.{Said, arc, final, refused, accepted, turn, readFrom, readText, addLine, namesFrom, names, arcOne, arcCount}
-use Rattle.att.specs.Survey.{Lists, Entered, Surveyed}
+use Rattle.att.specs.Survey.{Lists, Onward, Done, Lined, begun, Surveyed}
 use Rattle.att.specs.declared.reading.Line.{Line}
 use Rattle.att.specs.declared.reading.Line.the-variants.{End, Final, Arc, Faulty}
 use Rattle.att.specs.declared.Known.{Known}
@@ -111,33 +111,82 @@ pass-start s =
     }
 
 module _ (s : List ℕ) (at arcs : ℕ) (known : Known) (p : Pass s at arcs known) where
-  pub pass-final : (x next : ℕ) → lineAt s at ≡ Final x next → (more : Known) → Entered known more x → Pass s next arcs more
+  -- one line more, l, after which the walk is at `next`
+  pub pass-more : (l : Said) (next : ℕ) → Walk s next (p .done ++ (l ∷ [])) → (n : ℕ) → n ≡ arcs + arcOne l → (more : Known) → more .count ≤ 65
+      → ((S : List ℕ) → Lists known S → Lists more (addLine S l)) → Pass s next n more
   unfolding names
-  pass-final x next e more g =
+  pass-more l next w n c more room lists =
       record {
-        done = p .done ++ (final x ∷ []);
-        walk = walk-final s at (p .done) x next (p .walk) e;
-        count = let h = arcs-snoc (p .done) (final x) in let k = p .count in omega arith;
-        lists = rw (names-snoc [] (p .done) (final x)) (g .lists _ (p .lists));
-        room = g .room;
+        done = p .done ++ (l ∷ []);
+        walk = w;
+        count = let h = arcs-snoc (p .done) l in let k = p .count in omega arith;
+        lists = rw (names-snoc [] (p .done) l) (lists _ (p .lists));
+        room = room;
       }
 
-  pub pass-arc : (x y a next : ℕ) → lineAt s at ≡ Arc x y a next → (more last : Known) → Entered known more x → Entered more last y → Pass s next (arcs + 1) last
-  unfolding names
-  pass-arc x y a next e more last g f =
+  pub pass-end : lineAt s at ≡ End → (v : Survey) → v .reply ≡ 0 → v .arcs ≡ arcs → v .known ≡ known → Surveyed (readText s) v
+  pass-end e v z n k =
+      rw (walk-end s at (p .done) (p .walk) e)
+      (record {
+        reply = z;
+        arcs = n ∙ p .count;
+        lists = subst (λ (l : Known). Lists l (names (p .done))) (sym k) (p .lists);
+        room = subst (λ (l : Known). l .count ≤ 65) (sym k) (p .room);
+      })
+
+  pub pass-refused : (r : ℕ) → lineAt s at ≡ Faulty r → (v : Survey) → v .reply ≡ r → v .at ≡ at → Surveyed (readText s) v
+  pass-refused r e v f a =
+      rw (walk-refused s at (p .done) r (p .walk) e) (record { reply = f; place = a; some = λ z. faulty-some s at r e (sym f ∙ z) })
+
+-- how far a survey has come: on its way, or it is over
+pub record Far (s : List ℕ) (v : Survey) : Type 0 where
+  pub good : v .going ≡ true → v .reply ≡ 0
+  pub pass : v .going ≡ true → Pass s (v .at) (v .arcs) (v .known)
+  pub over : v .going ≡ false → Surveyed (readText s) v
+
+pub far-start : (s : List ℕ) → Far s begun
+unfolding begun
+far-start s = record { good = λ e. refl; pass = λ e. pass-start s; over = λ e. absurd (false≢true (sym e)) }
+
+-- what is ahead of it
+abbrev pub ahead : List ℕ → Survey → ℕ
+ahead s v = cond (v .going) (suc (length s - v .at)) 0
+
+module _ (s : List ℕ) (v : Survey) (f : Far s v) (g : v .going ≡ true) where
+  pub arcs-fit : length s < 2 ^ 63 → v .arcs + 1 < 2 ^ 64
+  arcs-fit h = let p = f .pass g in omega (arith, p .count, p .walk .few, p .walk .within)
+
+  module _ (r : Survey) where
+    pub far-onward : (l : Said) (next : ℕ) → Onward v r l next → v .at < next → next ≤ length s → Walk s next (f .pass g .done ++ (l ∷ []))
+        → Far s r × (ahead s r < ahead s v)
+    far-onward l next o h k w = (
       record {
-        done = p .done ++ (arc x y a ∷ []);
-        walk = walk-arc s at (p .done) x y a next (p .walk) e;
-        count = let h = arcs-snoc (p .done) (arc x y a) in let k = p .count in omega arith;
-        lists = rw (names-snoc [] (p .done) (arc x y a)) (f .lists _ (g .lists _ (p .lists)));
-        room = f .room;
-      }
+        good = λ e. o .same ∙ f .good g;
+        pass = λ e. subst (λ (n : ℕ). Pass s n (r .arcs) (r .known)) (sym (o .place))
+            (pass-more s (v .at) (v .arcs) (v .known) (f .pass g) l next w (r .arcs) (o .count) (r .known) (o .room) (o .lists));
+        over = λ e. absurd (false≢true (sym e ∙ o .more ∙ g));
+      },
+      rw (o .more, g, o .place) (omega arith),
+    )
 
-  pub pass-end : lineAt s at ≡ End → Surveyed (readText s) (record { reply = 0; place = 0; arcs = arcs; known = known })
-  pass-end e = rw (walk-end s at (p .done) (p .walk) e) (record { reply = refl; arcs = p .count; lists = p .lists; room = p .room })
+    pub far-over : (c : ℕ) → Done v r c → Surveyed (readText s) r → Far s r × (ahead s r < ahead s v)
+    far-over c d u = (
+      record {
+        good = λ e. absurd (false≢true (sym (d .shut) ∙ e));
+        pass = λ e. absurd (false≢true (sym (d .shut) ∙ e));
+        over = λ e. u;
+      },
+      rw (d .shut, g) (omega arith),
+    )
 
-  pub pass-refused : (r : ℕ) → lineAt s at ≡ Faulty r → Surveyed (readText s) (record { reply = r; place = at; arcs = arcs; known = known })
-  pass-refused r e = rw (walk-refused s at (p .done) r (p .walk) e) (record { reply = refl; place = refl; some = faulty-some s at r e })
-
-pub entered-long : (known more : Known) (x : ℕ) (S : List ℕ) → Lists known S → Entered known more x → length (more .list) ≡ 64
-entered-long known more x S p g = g .lists S p .long
+    -- a line more
+    pub far-next : (line : Line) → line ≡ lineAt s (v .at) → Lined v line r → Far s r × (ahead s r < ahead s v)
+    far-next End e d =
+        far-over _ d (pass-end s (v .at) (v .arcs) (v .known) (f .pass g) (sym e) r (d .answer ∙ f .good g) (d .count) (d .states))
+    far-next (Final x next) e o =
+        let k = final-on s (v .at) x next (sym e) in
+        far-onward (final x) next o (k .0) (k .1) (walk-final s (v .at) (f .pass g .done) x next (f .pass g .walk) (sym e))
+    far-next (Arc x y a next) e o =
+        let k = arc-on s (v .at) x y a next (sym e) in
+        far-onward (arc x y a) next o (k .0) (k .1) (walk-arc s (v .at) (f .pass g .done) x y a next (f .pass g .walk) (sym e))
+    far-next (Faulty c) e d = far-over c d (pass-refused s (v .at) (v .arcs) (v .known) (f .pass g) c (sym e) r (d .answer) (d .place))

@@ -2,13 +2,15 @@
 use Prim.Native.Nat.{ℕ, zero, suc, _+_, _*_, _≤_, _<_}
 use mathlib.Core.Path.{_≡_}
 use mathlib.Core.List.{List, [], _∷_, _++_}
-use mathlib.Core.Bool.{cond}
+use mathlib.Core.Bool.{true, false, cond}
 use lib.Dec.{eqb}
 use lib.ListN.{length, take, drop, replicate}
 use lib.Seq.{sets}
 use Rattle.book.specs.Format.{mostStates, startFlag, acceptFlag, bothFlags, stateSize}
 use Rattle.book.specs.declared.Written.{Written}
-use Rattle.att.specs.Text.{Said, Read, refused, accepted, readText, linesIn, add, names, arcCount, stateRecords, needed, answerRead}
+use Rattle.att.specs.Text.{Said, arc, final, Read, refused, accepted, readText, linesIn, add, addLine, names, arcOne, arcCount, stateRecords, needed, answerRead}
+use Rattle.att.specs.declared.reading.Line.{Line}
+use Rattle.att.specs.declared.reading.Line.the-variants.{End, Final, Arc, Faulty}
 use Rattle.att.specs.declared.Known.{Known}
 use Rattle.att.specs.declared.Survey.{Survey}
 use Rattle.att.specs.declared.Plan.{Plan}
@@ -24,6 +26,33 @@ pub record Entered (known next : Known) (x : ℕ) : Type 0 where
   pub room : next .count ≤ mostStates + 1
   pub lists : (S : List ℕ) → Lists known S → Lists next (add S x)
 
+-- a good line: the pass goes on at the next one
+pub record Onward (v r : Survey) (l : Said) (next : ℕ) : Type 0 where
+  pub more : r .going ≡ v .going
+  pub place : r .at ≡ next
+  pub count : r .arcs ≡ v .arcs + arcOne l
+  pub same : r .reply ≡ v .reply
+  pub room : r .known .count ≤ mostStates + 1
+  pub lists : (S : List ℕ) → Lists (v .known) S → Lists (r .known) (addLine S l)
+
+-- the end or a faulty line: the pass stays where it is
+pub record Done (v r : Survey) (reply : ℕ) : Type 0 where
+  pub shut : r .going ≡ false
+  pub answer : r .reply ≡ reply
+  pub place : r .at ≡ v .at
+  pub count : r .arcs ≡ v .arcs
+  pub states : r .known ≡ v .known
+
+abbrev pub Lined : Survey → Line → Survey → Type 0
+Lined v End r = Done v r (v .reply)
+Lined v (Final x next) r = Onward v r (final x) next
+Lined v (Arc x y a next) r = Onward v r (arc x y a) next
+Lined v (Faulty reply) r = Done v r reply
+
+-- before the first line
+unfoldable pub begun : Survey
+begun = record { going = true; reply = 0; at = 0; arcs = 0; known = record { list = replicate mostStates 0; count = 0 } }
+
 pub record SurveyOf (ls : List Said) (v : Survey) : Type 0 where
   pub reply : v .reply ≡ 0
   pub arcs : v .arcs ≡ arcCount ls
@@ -32,7 +61,7 @@ pub record SurveyOf (ls : List Said) (v : Survey) : Type 0 where
 
 pub record Refusal (r p : ℕ) (v : Survey) : Type 0 where
   pub reply : v .reply ≡ r
-  pub place : v .place ≡ p
+  pub place : v .at ≡ p
   pub some : v .reply ≡ 0 → ⊥
 
 abbrev pub Surveyed : Read → Survey → Type 0

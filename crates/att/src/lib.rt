@@ -1,14 +1,16 @@
 // IMPORT: a text in the AT&T form of acceptors as one part of a rule.
-use crate::reading::line_from;
 use crate::reading::Line;
+use crate::reading::Lines;
+use crate::reading::line_from;
+use crate::reading::next;
 use book::Written;
 ghost use mathlib.Core.Path.{_≡_};
-ghost use Prim.Native.Nat.{_+_, _*_, _≤_};
+ghost use Prim.Native.Nat.{_+_, _*_, _≤_, _<_, _^_};
 ghost use mathlib.Core.List.{[], _∷_};
 ghost use lib.ListN.{length, take};
 ghost use Rattle.book.specs.Format.{mostStates, stateSize, arcSize, stateKind, arcKind};
 ghost use Rattle.att.specs.Text.{readText, linesIn, idx, stateRecords, written, refusal, answerBy, importLeaves, importDef};
-ghost use Rattle.att.specs.Survey.{Entered, Surveyed, fresh, put, Filled, Ready, finalFlags, Planned};
+ghost use Rattle.att.specs.Survey.{Entered, Lined, begun, Surveyed, fresh, put, Filled, Ready, finalFlags, Planned};
 
 mod fields; // fields.rt: a line's fields, and a field as a number
 mod reading; // reading.rt: one line, and the text with a place in it
@@ -24,8 +26,12 @@ pub struct Known {
 
 // The first pass over the text.
 pub struct Survey {
+    // Whether there is a line to read.
+    pub going: bool,
+    // 0, or that of the first faulty line.
     pub reply: u8,
-    pub place: usize,
+    // Where the next line starts, or the faulty one.
+    pub at: usize,
     pub arcs: usize,
     pub known: Known,
 }
@@ -69,46 +75,69 @@ fn with_state(known: Known, x: u16) -> Known
     more
 }
 
-fn survey_of(text: &[u8]) -> Survey
-    ensures { λ r. ⌜ Surveyed (readText (now (text .entry))) r ⌝ }
+// The survey after a line: it goes on at the next one, or it is over.
+fn survey_line(v: Survey, line: Line) -> Survey
+    requires { ⌜ (v .arcs + 1 < 2 ^ 64) × (v .known .count ≤ mostStates + 1) ⌝ }
+    ensures { λ r. ⌜ Lined v line r ⌝ }
 {
-    let mut known = Known {
+    let mut r = v;
+    match line {
+        Line::End => {
+            r.going = false;
+            return r;
+        }
+        Line::Final(x, next) => {
+            let known = with_state(v.known, x);
+            r.known = known;
+            r.at = next;
+            return r;
+        }
+        Line::Arc(x, y, _, next) => {
+            let known = with_state(v.known, x);
+            let all = with_state(known, y);
+            r.known = all;
+            r.arcs = v.arcs + 1;
+            r.at = next;
+            return r;
+        }
+        Line::Faulty(reply) => {
+            r.going = false;
+            r.reply = reply;
+            return r;
+        }
+    }
+}
+
+// The survey before the first line.
+fn begin() -> Survey
+    ensures { λ r. ⌜ r ≡ begun ⌝ }
+{
+    let known = Known {
         list: [0u16; book::STATES],
         count: 0,
     };
-    let mut arcs = 0;
-    let mut at = 0;
-    loop {
-        let line = line_from(text, at);
-        match line {
-            Line::End => {
-                return Survey {
-                    reply: 0,
-                    place: 0,
-                    arcs,
-                    known,
-                };
-            }
-            Line::Final(x, next) => {
-                known = with_state(known, x);
-                at = next;
-            }
-            Line::Arc(x, y, _, next) => {
-                known = with_state(known, x);
-                known = with_state(known, y);
-                arcs += 1;
-                at = next;
-            }
-            Line::Faulty(reply) => {
-                return Survey {
-                    reply,
-                    place: at,
-                    arcs,
-                    known,
-                };
-            }
-        }
+    Survey {
+        going: true,
+        reply: 0,
+        at: 0,
+        arcs: 0,
+        known,
     }
+}
+
+// The first pass: the text and the place in it are held together, and every line is asked for in turn. The proof walks it step by step, for it
+// holds a struct with a reference; what is done at a line is decided in `survey_line`.
+fn survey_of(text: &[u8]) -> Survey
+    ensures { λ r. ⌜ Surveyed (readText (now (text .entry))) r ⌝ }
+{
+    let mut lines = Lines { text, at: 0 };
+    let mut survey = begin();
+    while survey.going {
+        let line = next(lines);
+        survey = survey_line(survey, line);
+        lines.at = survey.at;
+    }
+    survey
 }
 
 fn put_state(out: &mut [u8], at: usize, part: u8, flags: u8)
@@ -156,7 +185,14 @@ fn final_flags(k: usize) -> u8
 }
 
 // The second pass: accepting states are marked in their records, and arcs are written after the states.
-fn put_lines(out: &mut [u8], text: &[u8], list: &[u16; book::STATES], n: usize, part: u8, first: usize)
+fn put_lines(
+    out: &mut [u8],
+    text: &[u8],
+    list: &[u16; book::STATES],
+    n: usize,
+    part: u8,
+    first: usize,
+)
     requires { ⌜ Ready (now out) (now text) (now list) n part first ⌝ }
     ensures { λ _. ⌜ Filled (now (out .exit)) (written part first (linesIn (readText (now (text .entry))))) (now (out .entry)) ⌝ }
 {
@@ -234,7 +270,7 @@ fn plan_of(text: &[u8], first: u8, room: usize) -> Plan
     let v = survey_of(text);
     let known = v.known;
     if v.reply != 0 {
-        let answer = refused(v.reply, v.place);
+        let answer = refused(v.reply, v.at);
         return Plan { answer, known };
     }
     let answer = judged(v.arcs, states_of(known.count), first as usize, room);
