@@ -95,6 +95,11 @@ unfolding fresh
 fresh-some zero = omega arith
 fresh-some (suc n) = omega arith
 
+pub fresh-more : (n : ℕ) → n ≤ length (fresh n)
+unfolding fresh
+fresh-more zero = omega arith
+fresh-more (suc n) = let l = length-replicate {A = ℕ} n 0 in omega arith
+
 pub fresh-length : (n : ℕ) → (n ≡ 0 → ⊥) → length (fresh n) ≡ n
 unfolding fresh
 fresh-length zero h = absurd (h refl)

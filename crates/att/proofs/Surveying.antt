@@ -88,6 +88,10 @@ arc-on s at x y a next e = subst (λ (l : Line). Good at (length s) l) e (good-l
 pub faulty-some : (s : List ℕ) (at r : ℕ) → lineAt s at ≡ Faulty r → r ≡ 0 → ⊥
 faulty-some s at r e = subst (λ (l : Line). Good at (length s) l) e (good-line s at)
 
+-- what is ahead of a pass that has come to `at`
+abbrev pub ahead : List ℕ → Bool → ℕ → ℕ
+ahead s going at = cond going (suc (length s - at)) 0
+
 -- the first pass
 pub record Pass (s : List ℕ) (at arcs : ℕ) (known : Known) : Type 0 where
   pub done : List Said
@@ -148,17 +152,13 @@ pub far-start : (s : List ℕ) → Far s begun
 unfolding begun
 far-start s = record { good = λ e. refl; pass = λ e. pass-start s; over = λ e. absurd (false≢true (sym e)) }
 
--- what is ahead of it
-abbrev pub ahead : List ℕ → Survey → ℕ
-ahead s v = cond (v .going) (suc (length s - v .at)) 0
-
 module _ (s : List ℕ) (v : Survey) (f : Far s v) (g : v .going ≡ true) where
   pub arcs-fit : length s < 2 ^ 63 → v .arcs + 1 < 2 ^ 64
   arcs-fit h = let p = f .pass g in omega (arith, p .count, p .walk .few, p .walk .within)
 
   module _ (r : Survey) where
     pub far-onward : (l : Said) (next : ℕ) → Onward v r l next → v .at < next → next ≤ length s → Walk s next (f .pass g .done ++ (l ∷ []))
-        → Far s r × (ahead s r < ahead s v)
+        → Far s r × (ahead s (r .going) (r .at) < ahead s (v .going) (v .at))
     far-onward l next o h k w = (
       record {
         good = λ e. o .same ∙ f .good g;
@@ -169,7 +169,7 @@ module _ (s : List ℕ) (v : Survey) (f : Far s v) (g : v .going ≡ true) where
       rw (o .more, g, o .place) (omega arith),
     )
 
-    pub far-over : (c : ℕ) → Done v r c → Surveyed (readText s) r → Far s r × (ahead s r < ahead s v)
+    pub far-over : (c : ℕ) → Done v r c → Surveyed (readText s) r → Far s r × (ahead s (r .going) (r .at) < ahead s (v .going) (v .at))
     far-over c d u = (
       record {
         good = λ e. absurd (false≢true (sym (d .shut) ∙ e));
@@ -180,7 +180,7 @@ module _ (s : List ℕ) (v : Survey) (f : Far s v) (g : v .going ≡ true) where
     )
 
     -- a line more
-    pub far-next : (line : Line) → line ≡ lineAt s (v .at) → Lined v line r → Far s r × (ahead s r < ahead s v)
+    pub far-next : (line : Line) → line ≡ lineAt s (v .at) → Lined v line r → Far s r × (ahead s (r .going) (r .at) < ahead s (v .going) (v .at))
     far-next End e d =
         far-over _ d (pass-end s (v .at) (v .arcs) (v .known) (f .pass g) (sym e) r (d .answer ∙ f .good g) (d .count) (d .states))
     far-next (Final x next) e o =

@@ -4,15 +4,16 @@ use mathlib.Core.Path.{_≡_}
 use mathlib.Core.List.{List, [], _∷_, _++_}
 use mathlib.Core.Bool.{true, false, cond}
 use lib.Dec.{eqb}
-use lib.ListN.{length, take, drop, replicate}
+use lib.ListN.{length, take, drop, set, replicate}
 use lib.Seq.{sets}
-use Rattle.book.specs.Format.{mostStates, startFlag, acceptFlag, bothFlags, stateSize}
+use Rattle.book.specs.Format.{mostStates, startFlag, acceptFlag, bothFlags, stateSize, arcSize, flagsAt}
 use Rattle.book.specs.declared.Written.{Written}
-use Rattle.att.specs.Text.{Said, arc, final, Read, refused, accepted, readText, linesIn, add, addLine, names, arcOne, arcCount, stateRecords, needed, answerRead}
+use Rattle.att.specs.Text.{Said, arc, final, Read, refused, accepted, readText, linesIn, idx, add, addLine, names, arcOne, arcCount, stateRecords, arcRecord, needed, answerRead}
 use Rattle.att.specs.declared.reading.Line.{Line}
 use Rattle.att.specs.declared.reading.Line.the-variants.{End, Final, Arc, Faulty}
 use Rattle.att.specs.declared.Known.{Known}
 use Rattle.att.specs.declared.Survey.{Survey}
+use Rattle.att.specs.declared.Writing.{Writing}
 use Rattle.att.specs.declared.Plan.{Plan}
 
 -- the first `count` numbers of the list are the states S; a count of one more than there may be stands for more
@@ -99,6 +100,40 @@ pub record Ready (out s list : List ℕ) (n part first : ℕ) : Type 0 where
 
 unfoldable pub finalFlags : ℕ → ℕ
 finalFlags k = cond (eqb k 0) bothFlags acceptFlag
+
+-- what the second pass asks of a line: its states are among the n that are listed, and there is room for its record
+abbrev pub Listed : Line → List ℕ → ℕ → ℕ → ℕ → Type 0
+Listed End S n used room = Unit {0}
+Listed (Final x next) S n used room = idx S x < n
+Listed (Arc x y a next) S n used room = (idx S x < n) × (idx S y < n) × (used + arcSize ≤ room)
+Listed (Faulty reply) S n used room = Unit {0}
+
+pub record LineFits (line : Line) (list : List ℕ) (n first used room : ℕ) : Type 0 where
+  pub few : n ≤ mostStates
+  pub long : length list ≡ mostStates
+  pub top : first + n ≤ mostStates
+  pub states : stateSize * n ≤ room
+  pub listed : Listed line (take n list) n used room
+
+-- what a line makes of the second pass, and every byte of the output then; the states are S
+pub record AfterLine : Type 0 where
+  pub writing : Writing
+  pub out : List ℕ
+
+abbrev pub lineLeaves : Writing → List ℕ → AfterLine
+lineLeaves w o = record { writing = w; out = o }
+
+abbrev pub lineDef : Line → List ℕ → ℕ → Writing → List ℕ → AfterLine
+lineDef End S first w o = lineLeaves (record { going = false; at = w .at; used = w .used }) o
+lineDef (Final x next) S first w o = lineLeaves (record { going = w .going; at = next; used = w .used })
+    (set o (stateSize * idx S x + flagsAt) (finalFlags (idx S x)))
+lineDef (Arc x y a next) S first w o = lineLeaves (record { going = w .going; at = next; used = w .used + arcSize })
+    (put o (w .used) (arcRecord first S (arc x y a)))
+lineDef (Faulty reply) S first w o = lineLeaves (record { going = false; at = w .at; used = w .used }) o
+
+-- before the first line, n states being written
+unfoldable pub afterStates : ℕ → Writing
+afterStates n = record { going = true; at = 0; used = stateSize * length (fresh n) }
 
 pub record Planned (s : List ℕ) (first room : ℕ) (p : Plan) : Type 0 where
   pub answer : p .answer ≡ answerRead first room (readText s)

@@ -1,7 +1,6 @@
 // IMPORT: a text in the AT&T form of acceptors as one part of a rule.
 use crate::reading::Line;
 use crate::reading::Lines;
-use crate::reading::line_from;
 use crate::reading::next;
 use book::Written;
 ghost use mathlib.Core.Path.{_≡_};
@@ -10,7 +9,7 @@ ghost use mathlib.Core.List.{[], _∷_};
 ghost use lib.ListN.{length, take};
 ghost use Rattle.book.specs.Format.{mostStates, stateSize, arcSize, stateKind, arcKind};
 ghost use Rattle.att.specs.Text.{readText, linesIn, idx, stateRecords, written, refusal, answerBy, importLeaves, importDef};
-ghost use Rattle.att.specs.Survey.{Entered, Lined, begun, Surveyed, fresh, put, Filled, Ready, finalFlags, Planned};
+ghost use Rattle.att.specs.Survey.{Entered, Lined, begun, Surveyed, fresh, put, Filled, Ready, finalFlags, LineFits, lineLeaves, lineDef, afterStates, Planned};
 
 mod fields; // fields.rt: a line's fields, and a field as a number
 mod reading; // reading.rt: one line, and the text with a place in it
@@ -34,6 +33,16 @@ pub struct Survey {
     pub at: usize,
     pub arcs: usize,
     pub known: Known,
+}
+
+// The second pass over the text.
+pub struct Writing {
+    // Whether there is a line to read.
+    pub going: bool,
+    // Where it starts.
+    pub at: usize,
+    // How many bytes are written: the states' records, and those of the arcs so far.
+    pub used: usize,
 }
 
 // The number of x among the first n states; n where it is none of them.
@@ -184,46 +193,71 @@ fn final_flags(k: usize) -> u8
     if k == 0 { book::BOTH } else { book::ACCEPT }
 }
 
-// The second pass: accepting states are marked in their records, and arcs are written after the states.
-fn put_lines(
-    out: &mut [u8],
-    text: &[u8],
-    list: &[u16; book::STATES],
-    n: usize,
-    part: u8,
-    first: usize,
-)
-    requires { ⌜ Ready (now out) (now text) (now list) n part first ⌝ }
-    ensures { λ _. ⌜ Filled (now (out .exit)) (written part first (linesIn (readText (now (text .entry))))) (now (out .entry)) ⌝ }
-{
-    let mut used = book::STATE_SIZE * states_of(n);
-    let mut at = 0;
-    loop {
-        let line = line_from(text, at);
-        match line {
-            Line::Final(x, next) => {
-                let k = number_of(list, n, x);
-                out[book::STATE_SIZE * k + book::FLAGS] = final_flags(k);
-                at = next;
-            }
-            Line::Arc(x, y, a, next) => {
-                let p = number_of(list, n, x);
-                let q = number_of(list, n, y);
-                put_arc(out, used, (first + p) as u8, a, (first + q) as u8);
-                used += book::ARC_SIZE;
-                at = next;
-            }
-            Line::End => return,
-            Line::Faulty(_) => return,
-        }
-    }
-}
-
 // One state is written even where the text has none.
 fn states_of(n: usize) -> usize
     ensures { λ r. ⌜ r ≡ length (fresh n) ⌝ }
 {
     if n == 0 { 1 } else { n }
+}
+
+// The second pass after a line: a final state is marked in its record, an arc is written after what is written so far.
+fn put_line(out: &mut [u8], line: Line, list: &[u16; book::STATES], n: usize, first: usize, w: Writing) -> Writing
+    requires { ⌜ LineFits line (now list) n first (w .used) (length (now out)) ⌝ }
+    ensures { λ r. ⌜ lineLeaves r (now (out .exit)) ≡ lineDef line (take n (now (list .entry))) first w (now (out .entry)) ⌝ }
+{
+    let mut r = w;
+    match line {
+        Line::Final(x, next) => {
+            let k = number_of(list, n, x);
+            out[book::STATE_SIZE * k + book::FLAGS] = final_flags(k);
+            r.at = next;
+            return r;
+        }
+        Line::Arc(x, y, a, next) => {
+            let p = number_of(list, n, x);
+            let q = number_of(list, n, y);
+            put_arc(out, w.used, (first + p) as u8, a, (first + q) as u8);
+            r.used = w.used + book::ARC_SIZE;
+            r.at = next;
+            return r;
+        }
+        Line::End => {
+            r.going = false;
+            return r;
+        }
+        Line::Faulty(_) => {
+            r.going = false;
+            return r;
+        }
+    }
+}
+
+// The second pass before the first line: the states' records are written.
+fn after_states(n: usize) -> Writing
+    requires { ⌜ n ≤ mostStates ⌝ }
+    ensures { λ r. ⌜ r ≡ afterStates n ⌝ }
+{
+    let used = book::STATE_SIZE * states_of(n);
+    Writing {
+        going: true,
+        at: 0,
+        used,
+    }
+}
+
+// The second pass, over the text as the first: accepting states are marked in their records, and arcs are written after the states. It is proved as
+// `survey_of` is.
+fn put_lines(out: &mut [u8], text: &[u8], list: &[u16; book::STATES], n: usize, part: u8, first: usize)
+    requires { ⌜ Ready (now out) (now text) (now list) n part first ⌝ }
+    ensures { λ _. ⌜ Filled (now (out .exit)) (written part first (linesIn (readText (now (text .entry))))) (now (out .entry)) ⌝ }
+{
+    let mut lines = Lines { text, at: 0 };
+    let mut writing = after_states(n);
+    while writing.going {
+        let line = next(lines);
+        writing = put_line(&mut *out, line, list, n, first, writing);
+        lines.at = writing.at;
+    }
 }
 
 // An accepted text's answer by its numbers of arcs and states.

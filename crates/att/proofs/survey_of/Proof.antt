@@ -209,10 +209,10 @@ module _ {M : Type 1} (𝓤 : URA M) (H : Heap 𝓤) (A : Atoms 𝓤) (W : Given
         ∷ ‵ own₁ ∷ toks ∷ Dies
 
     abbrev Nearer : Now → Now → Type 0
-    Nearer y x = ahead s (y .v) < ahead s (x .v)
+    Nearer y x = ahead s (y .v .going) (y .v .at) < ahead s (x .v .going) (x .v .at)
 
     Nearer-wf : WellFounded Nearer
-    Nearer-wf = InvImage·wf (λ (x : Now). ahead s (x .v)) (Nat·lt-wfRel .wf)
+    Nearer-wf = InvImage·wf (λ (x : Now). ahead s (x .v .going) (x .v .at)) (Nat·lt-wfRel .wf)
 
     abbrev Turned : Now → Out → SProp 𝓤
     Turned x = afterTurn 𝓤 H (Below 𝓤 H A Nearer At x)
@@ -237,22 +237,20 @@ module _ {M : Type 1} (𝓤 : URA M) (H : Heap 𝓤) (A : Atoms 𝓤) (W : Given
     more : (x : Now) → x .v .going ≡ true → Sq W (At x) (runs C Λ En code.Mir.turn-1 (anyQ (Turned x)))
     unfolding afterTurn
     more x on =
-        let n = x .v .at in
-        let n-ok = at-ok (x .v) (x .ok) in
         assigns ! (of-opd ! (load ! (from ! (fld ! refl (stop !))) (look-in ! 3 (sub ! 0 refl (whole !))))) (from ! (stop !)) (init ! 5 refl (tt, tt)) $
         rewrite ! 5 (λ (y : Bool). ‵ (fat fullShare tyBool l₅ 0 (vbool y))) on refl $
         stays ! (load ! (from ! (stop !)) (look ! 5 refl)) $
-        assigns ! (of-opd ! (load ! (from ! (stop !)) (look ! 2 refl))) (from ! (stop !)) (init ! 6 refl (typed κ q b o γ s g n n-ok)) $
+        assigns ! (of-opd ! (load ! (from ! (stop !)) (look ! 2 refl))) (from ! (stop !)) (init ! 6 refl (typed κ q b o γ s g (x .v .at) (at-ok (x .v) (x .ok)))) $
         -- [room for _0; text; lines; survey; room for _4; _5; _6; what the text owns; the token; …]
         move ! (7 ∷ []) $ use1 W (‵ own₁ ⊛ ‵ own₁) (shr-slice-copy 𝓤 H A W (named 0) κ u8 .twice r₁ (v₁ ∷ [])) $ split ! $ move ! (0 ∷ 9 ∷ []) $
-        use2 W (raw (Next 𝓤 H A at-mem run .pre (to-next κ q b o γ s 𝓤 H A W at-mem run n))) (goes κ q b o γ s 𝓤 H A W at-mem run n n-ok) $
+        use2 W (raw (Next 𝓤 H A at-mem run .pre (to-next κ q b o γ s 𝓤 H A W at-mem run (x .v .at)))) (goes κ q b o γ s 𝓤 H A W at-mem run (x .v .at) (at-ok (x .v) (x .ok))) $
         -- [what `next` asks; what the text owns; room for _0; text; lines; survey; room for _4; _5; _6; …]
-        calls-at ! (fmOf 𝓤 H (W .laws) 𝓣) (Next 𝓤 H A at-mem run) known-next (to-next κ q b o γ s 𝓤 H A W at-mem run n)
+        calls-at ! (fmOf 𝓤 H (W .laws) 𝓣) (Next 𝓤 H A at-mem run) known-next (to-next κ q b o γ s 𝓤 H A W at-mem run (x .v .at))
         (and-then ! (load ! (from ! (stop !)) (look ! 8 refl)) (no-more !)) (λ u.
         use1 W (later (some (λ (l : Line). (toks ⊛ ‵ (S.the-row .own l (u ∷ [])))
-        ⊛ raw (ensured 𝓤 H A next.ended (next.clauses 𝓤 H A at-mem run) (κ, tt) (made κ q b o γ s n, tt) tt l)))) (id⊢ 𝓤 _) $ await ! tt $
-        pick ! (λ l. split ! $ move ! (1 ∷ []) $ use1 W (raw (fact 𝓤 (l ≡ lineAt s n))) (said κ q b o γ s 𝓤 H A W at-mem run n l) $
-        heard ! (l ≡ lineAt s n) (λ e. split ! $ move ! (1 ∷ []) $ peeks ! S.the-row (Is S.the-row) (shows 𝓤 H A S.the-row) l (u ∷ []) (λ are.
+        ⊛ raw (ensured 𝓤 H A next.ended (next.clauses 𝓤 H A at-mem run) (κ, tt) (made κ q b o γ s (x .v .at), tt) tt l)))) (id⊢ 𝓤 _) $ await ! tt $
+        pick ! (λ l. split ! $ move ! (1 ∷ []) $ use1 W (raw (fact 𝓤 (l ≡ lineAt s (x .v .at)))) (said κ q b o γ s 𝓤 H A W at-mem run (x .v .at) l) $
+        heard ! (l ≡ lineAt s (x .v .at)) (λ e. split ! $ move ! (1 ∷ []) $ peeks ! S.the-row (Is S.the-row) (shows 𝓤 H A S.the-row) l (u ∷ []) (λ are.
         -- [the line; the token; what the text owns; room for _0; text; lines; survey; room for _4; _5; _6; …]
         land ! (from ! (stop !)) (init ! 7 refl (EL.lawful S.the-type S′.the-laws 𝓤 H A W tt .typed l _ are .0)) $
         nothing ! $ move ! (1 ∷ 0 ∷ []) $ fjoin ! $
