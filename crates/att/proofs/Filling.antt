@@ -1,11 +1,11 @@
 -- Writing at the end of what is written, and into a state's record.
-use Prim.Native.Nat.{ℕ, zero, suc, _+_, _-_, _*_, _≤_, _<_}
-use mathlib.Core.Path.{_≡_, refl, ap, sym, _∙_, subst}
-use mathlib.Core.List.{List, [], _∷_, _++_, append-assoc}
+use Prim.Native.Nat.{ℕ, zero, suc, _+_, _-_, _*_, _≤_}
+use mathlib.Core.Path.{_≡_, refl, ap, sym, _∙_}
+use mathlib.Core.List.{List, [], _∷_, _++_}
 use native.Mathlib.Numerals.{add-one}
 use native.Mathlib.Omega.{arith}
-use lib.ListN.{length, take, drop, set, replicate, length-append, length-drop, length-set, length-replicate, take-append-drop}
-use lib.Seq.{sets, sets-eq, length-sets, take-append-seam, drop-append-seam, drop-append-add, drop-drop, length-take-le, set-append-left}
+use lib.ListN.{length, take, drop, set, replicate, length-append, length-drop, length-replicate}
+use lib.Seq.{sets, sets-eq, take-append-seam, drop-append-seam, drop-append-add, drop-drop}
 use Rattle.att.specs.Text.{stateRecords}
 use Rattle.att.specs.Survey.{fresh, put, Filled}
 
@@ -145,11 +145,6 @@ pub fresh-room : (n : ℕ) → n ≤ 65 → length (fresh n) ≤ 65
 unfolding fresh
 fresh-room zero h = omega arith
 fresh-room (suc n) h = let l = length-replicate {A = ℕ} n 0 in omega arith
-
-pub fresh-more : (n : ℕ) → n ≤ length (fresh n)
-unfolding fresh
-fresh-more zero = omega arith
-fresh-more (suc n) = let l = length-replicate {A = ℕ} n 0 in omega arith
 
 pub put-long : (o : List ℕ) (at : ℕ) (vs : List ℕ) → length (put o at vs) ≡ length o
 unfolding put

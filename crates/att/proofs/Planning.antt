@@ -1,18 +1,16 @@
 -- From the first pass to the answer, and from the writing to the output.
-use Prim.Native.Nat.{ℕ, zero, suc, _+_, _-_, _*_, _≤_, _<_}
+use Prim.Native.Nat.{ℕ, zero, suc, _-_, _*_, _≤_, _<_}
 use mathlib.Core.Path.{_≡_, refl, ap, sym, _∙_, subst}
-use mathlib.Core.List.{List, [], _∷_, _++_}
+use mathlib.Core.List.{List}
 use native.Mathlib.Omega.{arith}
-use native.Mathlib.Decide.{decLt, ℕ-discrete}
-use lib.Dec.{eqb, ltb}
-use lib.ListN.{length, take, drop, replicate, length-replicate, length-append}
+use native.Mathlib.Decide.{decLt}
+use lib.ListN.{length, length-replicate, length-append}
 use lib.Seq.{take-append-seam}
 use borrow.Author.Tests.{eq-eqb, ne-eqb}
 use Rattle.att.specs.Text.{importLeaves, answerOf, Said, Read, accepted, refused, readText, linesIn, names, arcCount, flags, stateRecords, arcRecords, written, stateCount, needed, refusal, answerBy, answerRead, importDef}
 use Rattle.att.specs.Survey.{fresh, Surveyed, Filled, Ready, Clear, Planned}
 use Rattle.book.specs.Format.{rightPart}
 use Rattle.book.specs.declared.Written.{Written}
-use Rattle.att.specs.declared.Known.{Known}
 use Rattle.att.specs.declared.Survey.{Survey}
 use Rattle.att.specs.declared.Plan.{Plan}
 use Rattle.att.proofs.Filling.{filled-length, filled-trans, records-length, fresh-length, fresh-more}

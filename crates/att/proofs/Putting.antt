@@ -1,11 +1,10 @@
 -- How far the second pass has come.
-use Prim.Native.Nat.{ℕ, zero, suc, _+_, _-_, _*_, _≤_, _<_}
+use Prim.Native.Nat.{ℕ, _+_, _-_, _*_, _≤_, _<_}
 use mathlib.Core.Path.{_≡_, refl, ap, sym, _∙_, subst}
 use mathlib.Core.List.{List, [], _∷_, _++_, append-assoc, append-nil}
 use mathlib.Core.Bool.{true, false, false≢true}
 use native.Mathlib.Omega.{arith}
-use lib.ListN.{length, take, drop, set, length-append, length-set, take-append-drop}
-use lib.Seq.{sets, set-append-left, length-take-le}
+use lib.ListN.{length, take, drop, set, length-append, take-append-drop}
 use Rattle.att.specs.Reading.{lineAt}
 use Rattle.att.specs.Text.{Said, arc, final, readText, linesIn, idx, names, arcCount, flags, stateRecords, arcRecords, written}
 use Rattle.att.specs.Survey.{fresh, put, Filled, Ready, finalFlags, Listed, LineFits, AfterLine, lineDef, afterStates}
@@ -14,7 +13,7 @@ use Rattle.att.specs.declared.Writing.{Writing}
 use Rattle.att.specs.declared.reading.Line.the-variants.{End, Final, Arc, Faulty}
 use Rattle.att.proofs.Surveying.{Walk, walk-start, walk-end, walk-refused, walk-final, walk-arc, arcs-snoc, final-on, arc-on, ahead}
 use Rattle.att.proofs.Filling.{filled-length, fill-put, records-length, fresh-length, fresh-more}
-use Rattle.att.proofs.Appearing.{Longer, walk-longer, In, final-in, source-in, target-in, Once, once-names}
+use Rattle.att.proofs.Appearing.{Longer, walk-longer, In, final-in, source-in, target-in, once-names}
 use Rattle.att.proofs.Flags.{flags-arc, flags-final, flags-none, flags-long, arcs-more, arcs-long, arcs-append, set-record}
 
 -- what the lines that are done have written, over the states S
@@ -112,10 +111,10 @@ module _ (o s list : List ℕ) (n part first : ℕ) (r : Ready o s list n part f
             filled = record {
               room = let z = m .filled .room in omega arith;
               is =
-                ap (λ (l : List ℕ). set l (3 * k + 2) (finalFlags k)) (m .filled .is ∙ append-assoc (stateRecords part (flags (m .done) S)) (arcRecords first S (m .done)) _)
-                ∙ t
-                ∙ sym (append-assoc (stateRecords part (set (flags (m .done) S) k (finalFlags k))) (arcRecords first S (m .done)) _)
-                ∙ rw (v, y);
+                  ap (λ (l : List ℕ). set l (3 * k + 2) (finalFlags k)) (m .filled .is ∙ append-assoc (stateRecords part (flags (m .done) S)) (arcRecords first S (m .done)) _)
+                  ∙ t
+                  ∙ sym (append-assoc (stateRecords part (set (flags (m .done) S) k (finalFlags k))) (arcRecords first S (m .done)) _)
+                  ∙ rw (v, y);
             };
             upto = omega arith;
           }
@@ -174,9 +173,9 @@ module _ (o s list : List ℕ) (n part first : ℕ) (r : Ready o s list n part f
       long = r .clear .long;
       top = r .clear .top;
       states =
-        let v : length (flags whole S) ≡ length (fresh n) = flags-long whole S ∙ ap (λ (k : ℕ). length (fresh k)) (sym (r .clear .states)) in
-        let l = mid-long out (w .at) (w .used) here in
-        omega (arith, r .clear .enough, fresh-more n);
+          let v : length (flags whole S) ≡ length (fresh n) = flags-long whole S ∙ ap (λ (k : ℕ). length (fresh k)) (sym (r .clear .states)) in
+          let l = mid-long out (w .at) (w .used) here in
+          omega (arith, r .clear .enough, fresh-more n);
       listed = by-line line e;
     }
       where
@@ -204,8 +203,7 @@ module _ (o s list : List ℕ) (n part first : ℕ) (r : Ready o s list n part f
           rw g (omega arith),
         )
         by-line (Final x next) i =
-            let k = final-on s (w .at) x next (sym i) in
-            (
+            let k = final-on s (w .at) x next (sym i) in (
               record {
                 mid = λ _. mid-final out (w .at) (w .used) here x next _ (sym i) refl;
                 over = λ z. absurd (false≢true (sym z ∙ g));
@@ -213,8 +211,7 @@ module _ (o s list : List ℕ) (n part first : ℕ) (r : Ready o s list n part f
               rw g (omega (arith, k .0, k .1)),
             )
         by-line (Arc x y a next) i =
-            let k = arc-on s (w .at) x y a next (sym i) in
-            (
+            let k = arc-on s (w .at) x y a next (sym i) in (
               record {
                 mid = λ _. mid-arc out (w .at) (w .used) here x y a next (sym i) _ _ refl refl _ refl;
                 over = λ z. absurd (false≢true (sym z ∙ g));

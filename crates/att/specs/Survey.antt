@@ -7,8 +7,8 @@ use lib.Dec.{eqb}
 use lib.ListN.{length, take, drop, set, replicate}
 use lib.Seq.{sets}
 use Rattle.book.specs.Format.{mostStates, startFlag, acceptFlag, bothFlags, stateSize, arcSize, flagsAt}
-use Rattle.book.specs.declared.Written.{Written}
-use Rattle.att.specs.Text.{Said, arc, final, Read, refused, accepted, readText, linesIn, idx, add, addLine, names, arcOne, arcCount, stateRecords, arcRecord, needed, answerRead}
+use Rattle.att.specs.Text.{Said, arc, final, Read, refused, accepted, readText, linesIn, idx}
+use Rattle.att.specs.Text.{add, addLine, names, arcOne, arcCount, stateRecords, arcRecord, needed, answerRead}
 use Rattle.att.specs.declared.reading.Line.{Line}
 use Rattle.att.specs.declared.reading.Line.the-variants.{End, Final, Arc, Faulty}
 use Rattle.att.specs.declared.Known.{Known}

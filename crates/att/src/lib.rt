@@ -9,7 +9,8 @@ ghost use mathlib.Core.List.{[], _∷_};
 ghost use lib.ListN.{length, take};
 ghost use Rattle.book.specs.Format.{mostStates, stateSize, arcSize, stateKind, arcKind};
 ghost use Rattle.att.specs.Text.{readText, linesIn, idx, stateRecords, written, refusal, answerBy, importLeaves, importDef};
-ghost use Rattle.att.specs.Survey.{Entered, Lined, begun, Surveyed, fresh, put, Filled, Ready, finalFlags, LineFits, lineLeaves, lineDef, afterStates, Planned};
+ghost use Rattle.att.specs.Survey.{Entered, Lined, begun, Surveyed};
+ghost use Rattle.att.specs.Survey.{fresh, put, Filled, Ready, finalFlags, LineFits, lineLeaves, lineDef, afterStates, Planned};
 
 mod fields; // fields.rt: a line's fields, and a field as a number
 mod reading; // reading.rt: one line, and the text with a place in it
@@ -201,7 +202,14 @@ fn states_of(n: usize) -> usize
 }
 
 // The second pass after a line: a final state is marked in its record, an arc is written after what is written so far.
-fn put_line(out: &mut [u8], line: Line, list: &[u16; book::STATES], n: usize, first: usize, w: Writing) -> Writing
+fn put_line(
+    out: &mut [u8],
+    line: Line,
+    list: &[u16; book::STATES],
+    n: usize,
+    first: usize,
+    w: Writing,
+) -> Writing
     requires { ⌜ LineFits line (now list) n first (w .used) (length (now out)) ⌝ }
     ensures { λ r. ⌜ lineLeaves r (now (out .exit)) ≡ lineDef line (take n (now (list .entry))) first w (now (out .entry)) ⌝ }
 {
@@ -247,7 +255,14 @@ fn after_states(n: usize) -> Writing
 
 // The second pass, over the text as the first: accepting states are marked in their records, and arcs are written after the states. It is proved as
 // `survey_of` is.
-fn put_lines(out: &mut [u8], text: &[u8], list: &[u16; book::STATES], n: usize, part: u8, first: usize)
+fn put_lines(
+    out: &mut [u8],
+    text: &[u8],
+    list: &[u16; book::STATES],
+    n: usize,
+    part: u8,
+    first: usize,
+)
     requires { ⌜ Ready (now out) (now text) (now list) n part first ⌝ }
     ensures { λ _. ⌜ Filled (now (out .exit)) (written part first (linesIn (readText (now (text .entry))))) (now (out .entry)) ⌝ }
 {

@@ -1,11 +1,11 @@
 // One line of a text, and the text with a place in it.
+use crate::fields::MOST_STATE;
+use crate::fields::NO_NUMBER;
 use crate::fields::behind;
 use crate::fields::field_count;
 use crate::fields::front;
 use crate::fields::number;
 use crate::fields::span;
-use crate::fields::MOST_STATE;
-use crate::fields::NO_NUMBER;
 ghost use mathlib.Core.Path.{_≡_};
 ghost use Rattle.att.specs.Reading.{finalLine, arcLine, lineIn, lineAt};
 ghost use Rattle.att.specs.Numbers.{finalOf, arcOf};
@@ -118,23 +118,9 @@ fn line_at(text: &[u8], at: usize) -> Line
     line_in(l, false, 0)
 }
 
-// The lines from `at` on.
-pub fn lines_from<'a>(text: &'a [u8], at: usize) -> Lines<'a>
-    ensures { λ r. ⌜ (r .text ≡ text .entry) × (r .at ≡ at) ⌝ }
-{
-    Lines { text, at }
-}
-
 // The line at the place.
 pub fn next<'a>(r: Lines<'a>) -> Line
     ensures { λ l. ⌜ l ≡ lineAt (now (r .entry .text)) (r .entry .at) ⌝ }
 {
     line_at(r.text, r.at)
-}
-
-// The line that starts at `at`, for callers with a plain slice.
-pub fn line_from(text: &[u8], at: usize) -> Line
-    ensures { λ r. ⌜ r ≡ lineAt (now (text .entry)) at ⌝ }
-{
-    next(lines_from(text, at))
 }

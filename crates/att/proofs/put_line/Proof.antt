@@ -1,7 +1,7 @@
-use Prim.Native.Nat.{ℕ, _+_, _*_, _≤_, _<_}
+use Prim.Native.Nat.{ℕ, _+_, _≤_, _<_}
 use borrow.Author.Needs.{needs}
-use mathlib.Core.Path.{_≡_, sym, subst}
-use mathlib.Core.List.{List, [], _∷_}
+use mathlib.Core.Path.{_≡_, subst}
+use mathlib.Core.List.{List}
 use native.Mathlib.Omega.{arith}
 use lib.ListN.{take}
 use Rattle.att.specs.Text.{idx}
@@ -47,15 +47,24 @@ final-flags-requires c κs = search needs
 
 -- src/lib.rt:212:17
 mul-out : tie.Need-mul-out
-mul-out c = let a = c .before .before .before .before .before .before in omega (arith, a .pre .few, a .pre .states, final-small _ _ _ _ _ _ (a .pre) _ _ _ (c .before .before .before .line .given .1) (c .before .number-of .ensures))
+mul-out c =
+    let l = c .before .before .before in
+    let a = l .before .before .before in
+    omega (arith, a .pre .few, a .pre .states, final-small _ _ _ _ _ _ (a .pre) _ _ _ (l .line .given .1) (c .before .number-of .ensures))
 
 -- src/lib.rt:212:17
 add-out : tie.Need-add-out
-add-out c = let a = c .before .before .before .before .before .before in omega (arith, a .pre .few, a .pre .states, final-small _ _ _ _ _ _ (a .pre) _ _ _ (c .before .before .before .line .given .1) (c .before .number-of .ensures))
+add-out c =
+    let l = c .before .before .before in
+    let a = l .before .before .before in
+    omega (arith, a .pre .few, a .pre .states, final-small _ _ _ _ _ _ (a .pre) _ _ _ (l .line .given .1) (c .before .number-of .ensures))
 
 -- src/lib.rt:212:13
 slice-write-out : tie.Need-slice-write-out
-slice-write-out c = let a = c .before .before .before .before .before .before in omega (arith, a .pre .few, a .pre .states, final-small _ _ _ _ _ _ (a .pre) _ _ _ (c .before .before .before .line .given .1) (c .before .number-of .ensures))
+slice-write-out c =
+    let l = c .before .before .before in
+    let a = l .before .before .before in
+    omega (arith, a .pre .few, a .pre .states, final-small _ _ _ _ _ _ (a .pre) _ _ _ (l .line .given .1) (c .before .number-of .ensures))
 
 -- src/lib.rt:214:13
 same-length : tie.Need-same-length
@@ -79,37 +88,45 @@ number-of-requires-3 c κs = search needs
 
 -- src/lib.rt:219:35
 add-put-arc : tie.Need-add-put-arc
-add-put-arc c = 
-    let a = c .before .before .before .before .before .before .before in
-    omega (arith, a .pre .top, source-small _ _ _ _ _ _ (a .pre) _ _ _ _ _ (c .before .before .before .before .line2 .given .1) (c .before .before .number-of2 .ensures))
+add-put-arc c =
+    let l = c .before .before .before .before in
+    let a = l .before .before .before in
+    omega (arith, a .pre .top, source-small _ _ _ _ _ _ (a .pre) _ _ _ _ _ (l .line2 .given .1) (c .before .before .number-of2 .ensures))
 
 -- src/lib.rt:219:34
 cast-put-arc : tie.Need-cast-put-arc
-cast-put-arc c = 
-    let a = c .before .before .before .before .before .before .before in
-    omega (arith, a .pre .top, source-small _ _ _ _ _ _ (a .pre) _ _ _ _ _ (c .before .before .before .before .line2 .given .1) (c .before .before .number-of2 .ensures))
+cast-put-arc c =
+    let l = c .before .before .before .before in
+    let a = l .before .before .before in
+    omega (arith, a .pre .top, source-small _ _ _ _ _ _ (a .pre) _ _ _ _ _ (l .line2 .given .1) (c .before .before .number-of2 .ensures))
 
 -- src/lib.rt:219:57
 add-put-arc-2 : tie.Need-add-put-arc-2
-add-put-arc-2 c = 
-    let a = c .before .before .before .before .before .before .before in
-    omega (arith, a .pre .top, target-small _ _ _ _ _ _ (a .pre) _ _ _ _ _ (c .before .before .before .before .line2 .given .1) (c .before .number-of3 .ensures))
+add-put-arc-2 c =
+    let l = c .before .before .before .before in
+    let a = l .before .before .before in
+    omega (arith, a .pre .top, target-small _ _ _ _ _ _ (a .pre) _ _ _ _ _ (l .line2 .given .1) (c .before .number-of3 .ensures))
 
 -- src/lib.rt:219:56
 cast-put-arc-2 : tie.Need-cast-put-arc-2
-cast-put-arc-2 c = 
-    let a = c .before .before .before .before .before .before .before in
-    omega (arith, a .pre .top, target-small _ _ _ _ _ _ (a .pre) _ _ _ _ _ (c .before .before .before .before .line2 .given .1) (c .before .number-of3 .ensures))
+cast-put-arc-2 c =
+    let l = c .before .before .before .before in
+    let a = l .before .before .before in
+    omega (arith, a .pre .top, target-small _ _ _ _ _ _ (a .pre) _ _ _ _ _ (l .line2 .given .1) (c .before .number-of3 .ensures))
 
 -- src/lib.rt:219:13
 put-arc-requires : tie.Need-put-arc-requires
-put-arc-requires c κs = let a = c .before .before .before .before .before .before .before in arc-room _ _ _ _ _ _ (a .pre) _ _ _ _ (c .before .before .before .before .line2 .given .1)
+put-arc-requires c κs =
+    let l = c .before .before .before .before in
+    let a = l .before .before .before in
+    arc-room _ _ _ _ _ _ (a .pre) _ _ _ _ (l .line2 .given .1)
 
 -- src/lib.rt:220:22
 add-r : tie.Need-add-r
 add-r c =
-    let a = c .before .before .before .before .before .before .before .before .before .before .before in
-    omega (arith, a, arc-room _ _ _ _ _ _ (a .pre) _ _ _ _ (c .before .before .before .before .before .before .before .before .line2 .given .1))
+    let l = c .before .before .before .before .before .before .before .before in
+    let a = l .before .before .before in
+    omega (arith, a, arc-room _ _ _ _ _ _ (a .pre) _ _ _ _ (l .line2 .given .1))
 
 -- src/lib.rt:222:13
 same-length-2 : tie.Need-same-length-2
@@ -117,8 +134,10 @@ same-length-2 c = search needs
 
 -- src/lib.rt:222:13
 returns-2 : tie.Need-returns-2
-returns-2 c = 
-    rw (c .before .before .before .before .before .before .before .before .line2 .given .1, c .before .before .before .put-arc .ensures, c .before .before .before .before .before .before .number-of2 .ensures, c .before .before .before .before .before .number-of3 .ensures)
+returns-2 c =
+    let p = c .before .before .before in
+    let l = p .before .before .before .before .before in
+    rw (l .line2 .given .1, p .put-arc .ensures, p .before .before .before .number-of2 .ensures, p .before .before .number-of3 .ensures)
 
 -- src/lib.rt:225:13
 enum-told : tie.Need-enum-told

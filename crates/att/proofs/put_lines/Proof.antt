@@ -24,14 +24,15 @@ use contract.Monad.{Fun, fact}
 use contract.Running.{givenOf, tables, tablesOf}
 use types.Kit.{Given, Item, ‵, raw, some, later, _⊛_, ⋆, runs, params′, anyQ, atRet, Sq, _$_, _∵_, !, qed, by, move, keep, drop, use1, use2, use3, split}
 use types.Kit.{join, pick, rewrite, fsplit, fjoin, feqL, feqI, suffices, frame, await, done}
-use types.Run.{look, store, init, forget, stop, hop, fld, from, load, addr, lit, unit-lit, of-opd, and-then, no-more, assigns, assigns-last, land, first as in-turn}
-use types.Run.{blocks, stays, leaves-loop, returns, enter, alloc1, alloc0, params1, pass1, pass0, free1, free0, exec, Below, again, loops}
+use types.Run.{look, store, init, forget, stop, hop, fld, from, load, addr, lit, unit-lit, of-opd, and-then, no-more, assigns, assigns-last}
+use types.Run.{land, first as in-turn, blocks, stays, leaves-loop, returns, enter, alloc1, alloc0, params1, pass1, pass0}
+use types.Run.{free1, free0, exec, Below, again, loops}
 use types.Part.{agg, whole, sub, look-in, store-in}
 use types.SemTy.{cells, Arr}
 use types.Tokens.{lft-new, lft-end}
 use sound.WpLaws.{fmOf, WpFn-mono}
 use denote.Exit.{yes}
-use denote.RattleType.{RattleType, owns}
+use denote.RattleType.{owns}
 use denote.Memory.{mem}
 use denote.Shadow.{pureI}
 use denote.Laws.{Is, shows}
@@ -60,7 +61,7 @@ use Rattle.att.specs.declared.reading.Line.{Line}
 use Rattle.att.specs.declared.Writing.{Writing}
 use Rattle.att.proofs.Surveying.{ahead}
 use Rattle.att.proofs.Putting.{Under, under-start, under-fits, under-next}
-use Rattle.att.proofs.Holding.{Next, made, typed, to-next, goes, said}
+use Rattle.att.proofs.Holding.{on-test, Next, made, typed, to-next, goes, said}
 use Rattle.att.proofs.reading.Lines.Laws as T′
 use Rattle.att.proofs.reading.Line as S
 use Rattle.att.proofs.reading.Line.Laws as S′
@@ -153,10 +154,6 @@ start-at : (n : ℕ) (w : Writing) → w ≡ afterStates n → w .at ≡ 0
 unfolding afterStates
 start-at n w e = ap (λ (y : Writing). y .at) e
 
-on-test : {P : Type 1} (b : Bool) → (b ≡ true → P) → (b ≡ false → P) → P
-on-test true p q = p refl
-on-test false p q = q refl
-
 module _ {M : Type 1} (𝓤 : URA M) (H : Heap 𝓤) (A : Atoms 𝓤) (W : Given 𝓤 H A) (at-mem : Memory → SProp 𝓤) (run : Routine → Fun 𝓤)
     (κ₁ κ₂ κ₃ : Lft) (q₁ q₂ q₃ : Share) (b₁ o₁ : ℕ) (γ₁ : GName) (b₂ o₂ : ℕ) (γ₂ : GName) (b₃ o₃ : ℕ) (γ₃ : GName) (o s list : List ℕ) (n part first : ℕ)
     (g₁ : Room u8 (length o)) (g₂ : Room u8 (length s)) (n-ok : n < 2 ^ 64) (part-ok : part < 2 ^ 8) (first-ok : first < 2 ^ 64)
@@ -219,7 +216,7 @@ module _ {M : Type 1} (𝓤 : URA M) (H : Heap 𝓤) (A : Atoms 𝓤) (W : Given
 
   -- the machine value of the struct at a place
   abbrev held : ℕ → Val
-  held m = T′.lowered (made κ₂ q₂ b₂ o₂ γ₂ s m)
+  held m = T′.lowered (made b₂ o₂ γ₂ s m)
 
   abbrev Now : Type 0
   Now = Here o s part first
@@ -267,7 +264,8 @@ module _ {M : Type 1} (𝓤 : URA M) (H : Heap 𝓤) (A : Atoms 𝓤) (W : Given
     line-toks = ‵ (flft (ν ∷ []) fullShare) ⊛ ‵ (flft κ₃ q₃) ⊛ ‵ ftrue
 
     abbrev line-owns : Fml
-    line-owns = owns (MutSlice (named 0) (ν ∷ []) u8 ∷ S.the-row ∷ ShrRef (named 1) κ₃ (Array u16 64) ∷ usize ∷ usize ∷ Wr.the-row ∷ []) line-args line-vals
+    line-owns = owns (MutSlice (named 0) (ν ∷ []) u8 ∷ S.the-row ∷ ShrRef (named 1) κ₃ (Array u16 64) ∷ usize ∷ usize ∷ Wr.the-row ∷ [])
+        line-args line-vals
 
     goes-line : x .w .going ≡ true → l ≡ lineAt s (x .w .at) → ent 𝓤 (⋆ 𝓤 H A (line-toks ∷ ‵ line-owns ∷ [])) (PutLine 𝓤 H A at-mem run .pre to-line)
     goes-line on e = qed W (line-toks ∷ ‵ line-owns ∷ []) ∵
@@ -356,15 +354,17 @@ module _ {M : Type 1} (𝓤 : URA M) (H : Heap 𝓤) (A : Atoms 𝓤) (W : Given
         assigns ! (of-opd ! (load ! (from ! (fld ! refl (stop !))) (look-in ! 8 (sub ! 0 refl (whole !))))) (from ! (stop !)) (init ! 10 refl (tt, tt)) $
         rewrite ! 10 (λ (y : Bool). ‵ (fat fullShare tyBool l₁₀ 0 (vbool y))) on refl $
         stays ! (load ! (from ! (stop !)) (look ! 10 refl)) $
-        assigns ! (of-opd ! (load ! (from ! (stop !)) (look ! 7 refl))) (from ! (stop !)) (init ! 11 refl (typed κ₂ q₂ b₂ o₂ γ₂ s g₂ (x .w .at) (at-ok (x .w) (x .ok)))) $
+        assigns ! (of-opd ! (load ! (from ! (stop !)) (look ! 7 refl))) (from ! (stop !))
+        (init ! 11 refl (typed b₂ o₂ γ₂ s g₂ (x .w .at) (at-ok (x .w) (x .ok)))) $
         move ! (18 ∷ []) $ use1 W (‵ own₂ ⊛ ‵ own₂) (shr-slice-copy 𝓤 H A W (named 1) κ₂ u8 .twice r₂ (v₂ ∷ [])) $ split ! $ move ! (0 ∷ 20 ∷ []) $
-        use2 W (raw (Next 𝓤 H A at-mem run .pre (to-next κ₂ q₂ b₂ o₂ γ₂ s 𝓤 H A W at-mem run (x .w .at)))) (goes κ₂ q₂ b₂ o₂ γ₂ s 𝓤 H A W at-mem run (x .w .at) (at-ok (x .w) (x .ok))) $
+        use2 W (raw (Next 𝓤 H A at-mem run .pre (to-next b₂ o₂ γ₂ s κ₂ q₂ 𝓤 H A W at-mem run (x .w .at))))
+        (goes b₂ o₂ γ₂ s κ₂ q₂ 𝓤 H A W at-mem run (x .w .at) (at-ok (x .w) (x .ok))) $
         -- [what `next` asks; what text owns; room for _0; …; _13; the bytes; the open borrow; obs; auth; what list owns; its token; …]
-        calls-at ! (fmOf 𝓤 H (W .laws) 𝓣) (Next 𝓤 H A at-mem run) known-next (to-next κ₂ q₂ b₂ o₂ γ₂ s 𝓤 H A W at-mem run (x .w .at))
+        calls-at ! (fmOf 𝓤 H (W .laws) 𝓣) (Next 𝓤 H A at-mem run) known-next (to-next b₂ o₂ γ₂ s κ₂ q₂ 𝓤 H A W at-mem run (x .w .at))
         (and-then ! (load ! (from ! (stop !)) (look ! 13 refl)) (no-more !)) (λ u.
         use1 W (later (some (λ (l : Line). (tok₂ ⊛ ‵ (S.the-row .own l (u ∷ [])))
-        ⊛ raw (ensured 𝓤 H A next.ended (next.clauses 𝓤 H A at-mem run) (κ₂, tt) (made κ₂ q₂ b₂ o₂ γ₂ s (x .w .at), tt) tt l)))) (id⊢ 𝓤 _) $ await ! tt $
-        pick ! (λ l. split ! $ move ! (1 ∷ []) $ use1 W (raw (fact 𝓤 (l ≡ lineAt s (x .w .at)))) (said κ₂ q₂ b₂ o₂ γ₂ s 𝓤 H A W at-mem run (x .w .at) l) $
+        ⊛ raw (ensured 𝓤 H A next.ended (next.clauses 𝓤 H A at-mem run) (κ₂, tt) (made b₂ o₂ γ₂ s (x .w .at), tt) tt l)))) (id⊢ 𝓤 _) $ await ! tt $
+        pick ! (λ l. split ! $ move ! (1 ∷ []) $ use1 W (raw (fact 𝓤 (l ≡ lineAt s (x .w .at)))) (said b₂ o₂ γ₂ s κ₂ q₂ 𝓤 H A W at-mem run (x .w .at) l) $
         heard ! (l ≡ lineAt s (x .w .at)) (λ e. split ! $ move ! (1 ∷ []) $ peeks ! S.the-row (Is S.the-row) (shows 𝓤 H A S.the-row) l (u ∷ []) (λ are.
         -- [the line; text's token; what text owns; room for _0; …; _13; the bytes; the open borrow; obs; auth; what list owns; its token; …]
         land ! (from ! (stop !)) (init ! 12 refl (EL.lawful S.the-type S′.the-laws 𝓤 H A W tt .typed l _ are .0)) $
@@ -377,8 +377,8 @@ module _ {M : Type 1} (𝓤 : URA M) (H : Heap 𝓤) (A : Atoms 𝓤) (W : Given
         use1 W (later (some (λ (δ : GName). ‵ (lent ν δ (x .ys) (length (x .ys))) ⊛ ‵ (flent (ν ∷ []) (Held u8 (length (x .ys)) b₁ o₁ δ)))))
         (lends-slice 𝓤 H A W u8 (named 0) (ν ∷ []) (x .ys) b₁ o₁ (subst (Room u8) (sym (x .same)) g₁)) $ await ! tt $ pick ! (λ δ. split ! $
         rewrite ! 0 (λ (j : ℕ). ‵ (lent ν δ (x .ys) j)) (x .same) refl $
-        -- [the bytes, lent; the lender's part; the call's token; the line; text's token; what text owns; room for _0; …; _13; the open borrow; obs; auth; what
-        -- list owns; its token; …]
+        -- [the bytes, lent; the lender's part; the call's token; the line; text's token; what text owns; room for _0; …; _13; the open borrow;
+        -- obs; auth; what list owns; its token; …]
         move ! (23 ∷ []) $ use1 W (‵ own₃ ⊛ ‵ own₃) (shr-copy 𝓤 H A W (named 2) κ₃ (Array u16 64) .twice r₃ (v₃ ∷ [])) $ split ! $
         nothing ! $ owned ! Wr.the-row (Is Wr.the-row) (LL.makes Wr.the-type Wr′.the-plain 𝓤 H A) (x .w) (low (x .w) ∷ []) (x .ok) $ fjoin ! $
         owned ! usize (Is usize) (uint-makes 𝓤 H A W w64) first _ (refl, first-ok) $ fjoin ! $
@@ -432,11 +432,12 @@ module _ {M : Type 1} (𝓤 : URA M) (H : Heap 𝓤) (A : Atoms 𝓤) (W : Given
 
     opens : Sq W Rooms (params′ En (v₁ ∷ v₂ ∷ v₃ ∷ vint w64 n ∷ vint w8 part ∷ vint w64 first ∷ []) (runs C Λ En code.Mir.t-1 (atRet En Post)))
     opens =
-        params1 ! $ pass1 ! (init ! 24 refl (tt, (tt, (record { fits = g₁ .0 }, tt)))) $ pass1 ! (init ! 22 refl (tt, (tt, (record { fits = g₂ .0 }, tt)))) $
-        pass1 ! (init ! 20 refl (tt, tt)) $ pass1 ! (init ! 18 refl (tt, record { fits = n-ok })) $ pass1 ! (init ! 16 refl (tt, record { fits = part-ok })) $
+        params1 ! $ pass1 ! (init ! 24 refl (tt, (tt, (record { fits = g₁ .0 }, tt)))) $
+        pass1 ! (init ! 22 refl (tt, (tt, (record { fits = g₂ .0 }, tt)))) $ pass1 ! (init ! 20 refl (tt, tt)) $
+        pass1 ! (init ! 18 refl (tt, record { fits = n-ok })) $ pass1 ! (init ! 16 refl (tt, record { fits = part-ok })) $
         pass1 ! (init ! 14 refl (tt, record { fits = first-ok })) $ pass0 ! $
         assigns ! (agg ! (and-then ! (load ! (from ! (stop !)) (look ! 22 refl)) (and-then ! (lit ! tt) (no-more !)))) (from ! (stop !))
-        (init ! 12 refl (typed κ₂ q₂ b₂ o₂ γ₂ s g₂ 0 (lit< tt))) $
+        (init ! 12 refl (typed b₂ o₂ γ₂ s g₂ 0 (lit< tt))) $
         nothing ! $ owned ! usize (Is usize) (uint-makes 𝓤 H A W w64) n _ (refl, n-ok) $ fjoin ! $ nothing ! $
         use2 W (raw (Start 𝓤 H A at-mem run .pre to-start)) goes-start $
         calls-at ! (fmOf 𝓤 H (W .laws) 𝓣) (Start 𝓤 H A at-mem run) known-start to-start
