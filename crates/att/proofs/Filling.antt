@@ -5,7 +5,7 @@ use mathlib.Core.List.{List, [], _∷_, _++_}
 use native.Mathlib.Numerals.{add-one}
 use native.Mathlib.Omega.{arith}
 use lib.ListN.{length, take, drop, set, replicate, length-append, length-drop, length-replicate}
-use lib.Seq.{sets, sets-eq, take-append-seam, drop-append-seam, drop-append-add, drop-drop}
+use lib.Seq.{sets, sets-eq, length-sets, take-append-seam, drop-append-seam, drop-append-add, drop-drop}
 use Rattle.att.specs.Text.{stateRecords}
 use Rattle.att.specs.Survey.{fresh, put, Filled}
 

@@ -12,7 +12,6 @@ use Rattle.att.specs.Survey.{fresh, Surveyed, Filled, Ready, Clear, Plan
 use Rattle.book.specs.Format.{rightPart}
 use Rattle.book.specs.declared.Written.{Written}
 use Rattle.att.specs.declared.Survey.{Survey}
-use Rattle.att.specs.declared.Plan.{Plan}
 use Rattle.att.proofs.Filling.{filled-length, filled-trans, records-length, fresh-length, fresh-more}
 use Rattle.att.proofs.Flags.{flags-long, arcs-long}
 use Rattle.att.proofs.Answers.{Accepting, accepting, answer-states, answer-good, answer-part}
