@@ -136,15 +136,11 @@ pub left-more : (l out o : List ℕ) (part m : ℕ) → l ≡ put out (3 * (m + 
 unfolding put
 left-more l out o part m e p h = rw e (states-more out o part m p h)
 
-pub fresh-top : (n : ℕ) → n ≤ 64 → length (fresh n) ≤ 64
+-- no more states are written than there may be, one at least
+pub fresh-most : (most k n : ℕ) → k ≡ length (fresh n) → 1 ≤ most → n ≤ most → k ≤ most
 unfolding fresh
-fresh-top zero h = omega arith
-fresh-top (suc n) h = let l = length-replicate {A = ℕ} n 0 in omega arith
-
-pub fresh-room : (n : ℕ) → n ≤ 65 → length (fresh n) ≤ 65
-unfolding fresh
-fresh-room zero h = omega arith
-fresh-room (suc n) h = let l = length-replicate {A = ℕ} n 0 in omega arith
+fresh-most most k zero e p h = omega arith
+fresh-most most k (suc n) e p h = let l = length-replicate {A = ℕ} n 0 in omega arith
 
 pub put-long : (o : List ℕ) (at : ℕ) (vs : List ℕ) → length (put o at vs) ≡ length o
 unfolding put

@@ -103,7 +103,7 @@ fn survey_line(v: Survey, line: Line) -> Survey
             return r;
         }
         Line::Arc(x, y, _, next) => {
-            let known = with_state(v.known, x);
+            let known = with_state(v.known, x); // the source first
             let all = with_state(known, y);
             r.known = all;
             r.arcs = v.arcs + 1;

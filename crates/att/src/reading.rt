@@ -119,8 +119,8 @@ fn line_at(text: &[u8], at: usize) -> Line
 }
 
 // The line at the place.
-pub fn next<'a>(r: Lines<'a>) -> Line
-    ensures { λ l. ⌜ l ≡ lineAt (now (r .entry .text)) (r .entry .at) ⌝ }
+pub fn next<'a>(lines: Lines<'a>) -> Line
+    ensures { λ r. ⌜ r ≡ lineAt (now (lines .entry .text)) (lines .entry .at) ⌝ }
 {
-    line_at(r.text, r.at)
+    line_at(lines.text, lines.at)
 }

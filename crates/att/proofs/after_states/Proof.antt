@@ -1,7 +1,7 @@
 use borrow.Author.Needs.{needs}
 use native.Mathlib.Omega.{arith}
 use Rattle.att.specs.Survey.{afterStates}
-use Rattle.att.proofs.Filling.{fresh-top}
+use Rattle.att.proofs.Filling.{fresh-most}
 use Rattle.att.proofs.after_states.Statement.{statement}
 use Rattle.att.proofs.after_states.Tie as tie
 use Rattle.att.proofs.after_states.Reads as reads
@@ -14,7 +14,7 @@ states-of-requires c κs = search needs
 
 -- src/lib.rt:240:16
 mul-used : tie.Need-mul-used
-mul-used c = let a = c .before in omega (arith, c .states-of .ensures, fresh-top (a .args .n) (a .pre))
+mul-used c = omega (arith, fresh-most 64 _ _ (c .states-of .ensures) (omega arith) (omega (arith, c .before .pre)))
 
 -- src/lib.rt:236:1
 returns : tie.Need-returns

@@ -1,6 +1,6 @@
 use native.Mathlib.Omega.{arith}
 use borrow.Author.Needs.{needs}
-use Rattle.att.proofs.Filling.{fresh-room}
+use Rattle.att.proofs.Filling.{fresh-most}
 use Rattle.att.proofs.Planning.{survey-room, planned-refused, planned-good}
 use Rattle.att.proofs.plan_of.Statement.{statement}
 use Rattle.att.proofs.plan_of.Tie as tie
@@ -33,7 +33,7 @@ judged-requires c κs =
     let v = c .before .before .before .before in
     let a = v .before .before in
     let h = survey-room _ (a .args .first) (a .args .room) _ (v .survey-of .ensures) (c .before .if1 .left) in
-    (omega (arith, c .states-of .ensures, fresh-room _ h), omega (arith, a))
+    (fresh-most 65 _ _ (c .states-of .ensures) (omega arith) h, omega (arith, a))
 
 -- src/lib.rt:228:1
 returns-2 : tie.Need-returns-2

@@ -91,28 +91,36 @@ add-put-arc : tie.Need-add-put-arc
 add-put-arc c =
     let l = c .before .before .before .before in
     let a = l .before .before .before in
-    omega (arith, a .pre .top, source-small _ _ _ _ _ _ (a .pre) _ _ _ _ _ (l .line2 .given .1) (c .before .before .number-of2 .ensures))
+    let p = source-small _ _ _ _ _ _ (a .pre) _ _ _ _ _ (l .line2 .given .1) (c .before .before .number-of2 .ensures) in
+    let q = target-small _ _ _ _ _ _ (a .pre) _ _ _ _ _ (l .line2 .given .1) (c .before .number-of3 .ensures) in
+    omega (arith, a .pre .top, p, q)
 
 -- src/lib.rt:219:34
 cast-put-arc : tie.Need-cast-put-arc
 cast-put-arc c =
     let l = c .before .before .before .before in
     let a = l .before .before .before in
-    omega (arith, a .pre .top, source-small _ _ _ _ _ _ (a .pre) _ _ _ _ _ (l .line2 .given .1) (c .before .before .number-of2 .ensures))
+    let p = source-small _ _ _ _ _ _ (a .pre) _ _ _ _ _ (l .line2 .given .1) (c .before .before .number-of2 .ensures) in
+    let q = target-small _ _ _ _ _ _ (a .pre) _ _ _ _ _ (l .line2 .given .1) (c .before .number-of3 .ensures) in
+    omega (arith, a .pre .top, p, q)
 
 -- src/lib.rt:219:57
 add-put-arc-2 : tie.Need-add-put-arc-2
 add-put-arc-2 c =
     let l = c .before .before .before .before in
     let a = l .before .before .before in
-    omega (arith, a .pre .top, target-small _ _ _ _ _ _ (a .pre) _ _ _ _ _ (l .line2 .given .1) (c .before .number-of3 .ensures))
+    let p = source-small _ _ _ _ _ _ (a .pre) _ _ _ _ _ (l .line2 .given .1) (c .before .before .number-of2 .ensures) in
+    let q = target-small _ _ _ _ _ _ (a .pre) _ _ _ _ _ (l .line2 .given .1) (c .before .number-of3 .ensures) in
+    omega (arith, a .pre .top, p, q)
 
 -- src/lib.rt:219:56
 cast-put-arc-2 : tie.Need-cast-put-arc-2
 cast-put-arc-2 c =
     let l = c .before .before .before .before in
     let a = l .before .before .before in
-    omega (arith, a .pre .top, target-small _ _ _ _ _ _ (a .pre) _ _ _ _ _ (l .line2 .given .1) (c .before .number-of3 .ensures))
+    let p = source-small _ _ _ _ _ _ (a .pre) _ _ _ _ _ (l .line2 .given .1) (c .before .before .number-of2 .ensures) in
+    let q = target-small _ _ _ _ _ _ (a .pre) _ _ _ _ _ (l .line2 .given .1) (c .before .number-of3 .ensures) in
+    omega (arith, a .pre .top, p, q)
 
 -- src/lib.rt:219:13
 put-arc-requires : tie.Need-put-arc-requires
