@@ -1,21 +1,15 @@
 -- The answer, case by case.
-use Prim.Native.Nat.{ℕ, zero, suc, _+_, _-_, _*_, _≤_, _<_}
-use mathlib.Core.Path.{_≡_, refl, ap, sym, _∙_, subst}
-use mathlib.Core.List.{List, [], _∷_, _++_}
+use Prim.Native.Nat.{ℕ, _+_, _*_, _≤_, _<_}
+use mathlib.Core.Path.{_≡_, refl, ap, sym, _∙_}
+use mathlib.Core.List.{List}
 use mathlib.Core.Bool.{Bool, true, false, _||_}
 use native.Mathlib.Omega.{arith}
-use native.Mathlib.Decide.{decLt, ℕ-discrete}
-use lib.Dec.{eqb, ltb}
-use lib.ListN.{length, take, drop, take-append-drop}
-use lib.Seq.{take-append-seam, drop-append-seam}
-use borrow.Author.Tests.{lt-ltb, le-ltb, eq-eqb, ne-eqb}
+use native.Mathlib.Decide.{decLt}
+use lib.Dec.{ltb}
+use lib.ListN.{length}
+use borrow.Author.Tests.{lt-ltb, le-ltb}
 use Rattle.att.specs.Text.{readText, refusal, answerBy, answerRead, answerOf}
 use Rattle.book.specs.declared.Written.{Written}
-use Rattle.att.specs.declared.Known.{Known}
-use Rattle.att.specs.declared.Survey.{Survey}
-use Rattle.att.specs.declared.Plan.{Plan}
-use Rattle.att.proofs.Filling.{filled-length, filled-trans, records-length, fresh-length, fresh-zero, fresh-some}
-use Rattle.att.proofs.Flags.{flags-long, arcs-long}
 
 or-true : (b : Bool) → (b || true) ≡ true
 or-true true = refl
@@ -49,8 +43,10 @@ pub accepting : (arcs states first room : ℕ) → answerBy arcs states first ro
 accepting arcs states first room e = by-case (decLt 512 arcs) (decLt 64 (first + states)) (decLt room (3 * states + 5 * arcs))
   where
     by-case : Dec (512 < arcs) → Dec (64 < first + states) → Dec (room < 3 * states + 5 * arcs) → Accepting arcs states first room
-    by-case (yes h) b d = let q : _≡_ {A = ℕ} 21 0 = sym (ap (λ (r : Written). r .reply) (answer-arcs arcs states first room h)) ∙ e in let z : ⊥ = omega arith in absurd z
-    by-case (no h) (yes k) d = let q : _≡_ {A = ℕ} 21 0 = sym (ap (λ (r : Written). r .reply) (answer-states arcs states first room k)) ∙ e in let z : ⊥ = omega arith in absurd z
+    by-case (yes h) b d = let q : _≡_ {A = ℕ} 21 0 = sym (ap (λ (r : Written). r .reply) (answer-arcs arcs states first room h))
+        ∙ e in let z : ⊥ = omega arith in absurd z
+    by-case (no h) (yes k) d = let q : _≡_ {A = ℕ} 21 0 = sym (ap (λ (r : Written). r .reply) (answer-states arcs states first room k))
+        ∙ e in let z : ⊥ = omega arith in absurd z
     by-case (no h) (no k) (yes m) =
         let f : arcs ≤ 512 = omega (arith, h) in
         let l : first + states ≤ 64 = omega (arith, k) in

@@ -1,22 +1,16 @@
 -- The second pass: the lines done are a front of the text's lines; each state named has its number; flags and arcs after one line more.
-use Prim.Native.Nat.{ℕ, zero, suc, _+_, _-_, _*_, _≤_, _<_}
-use mathlib.Core.Path.{_≡_, refl, ap, sym, _∙_, subst}
+use Prim.Native.Nat.{ℕ, zero, suc, _+_, _≤_, _<_}
+use mathlib.Core.Path.{_≡_, refl, ap, sym, _∙_}
 use mathlib.Core.List.{List, [], _∷_, _++_, append-assoc, append-nil}
-use mathlib.Core.Bool.{Bool, true, false, _||_, cond}
-use native.Mathlib.Numerals.{add-one}
 use native.Mathlib.Omega.{arith}
 use native.Mathlib.Decide.{decLt, ℕ-discrete}
-use lib.Dec.{eqb, ltb}
-use lib.ListN.{length, take, drop, getD, set, replicate, length-append, length-set, length-replicate, take-append-drop}
-use lib.Seq.{sets}
-use borrow.Author.Tests.{eq-eqb, ne-eqb}
+use lib.ListN.{length, length-append}
 use Rattle.att.specs.Reading.{lineAt}
 use Rattle.att.specs.Text.{Said, arc, final, Read, accepted, turn, readFrom, readText, linesIn, idx, add, addLine, namesFrom, names, flags}
 use Rattle.att.specs.declared.reading.Line.{Line}
 use Rattle.att.specs.declared.reading.Line.the-variants.{End, Final, Arc, Faulty}
 use Rattle.att.proofs.Names.{idx-here, idx-there, idx-le, add-in, add-new}
-use Rattle.att.proofs.Surveying.{Walk, walk-start, walk-end, walk-refused, walk-final, walk-arc, names-snoc, arcs-snoc, read-line}
-use Rattle.att.proofs.Filling.{filled-length, fill-put, records-length}
+use Rattle.att.proofs.Surveying.{Walk, names-snoc}
 
 pub record Longer (done whole : List Said) : Type 0 where
   pub rest : List Said
@@ -25,7 +19,8 @@ pub record Longer (done whole : List Said) : Type 0 where
 longer-by : (done whole : List Said) (l : Said) → Longer (done ++ (l ∷ [])) whole → Longer done whole
 longer-by done whole l g = record { rest = l ∷ g .rest; is = g .is ∙ append-assoc done (l ∷ []) (g .rest) }
 
-longer-turn : (l : Line) (at : ℕ) (done whole : List Said) (go : ℕ → List Said → Read) → ((next : ℕ) (more : List Said) → go next more ≡ accepted whole → Longer more whole)
+longer-turn : (l : Line) (at : ℕ) (done whole : List Said) (go : ℕ → List Said → Read)
+    → ((next : ℕ) (more : List Said) → go next more ≡ accepted whole → Longer more whole)
     → turn l at done go ≡ accepted whole → Longer done whole
 longer-turn End at done whole go f e = let h : whole ≡ done = sym (ap linesIn e) in record { rest = []; is = h ∙ sym (append-nil done) }
 longer-turn (Final x next) at done whole go f e = longer-by done whole (final x) (f next (done ++ (final x ∷ [])) e)
@@ -35,7 +30,8 @@ longer-turn (Faulty r) at done whole go f e = let z : _≡_ {A = ℕ} 0 1 = cc i
 longer-from : (n : ℕ) (s : List ℕ) (at : ℕ) (done whole : List Said) → readFrom n s at done ≡ accepted whole → Longer done whole
 unfolding readFrom
 longer-from zero s at done whole e = let h : whole ≡ done = sym (ap linesIn e) in record { rest = []; is = h ∙ sym (append-nil done) }
-longer-from (suc n) s at done whole e = longer-turn (lineAt s at) at done whole (λ (next : ℕ) (more : List Said). readFrom n s next more) (λ next more q. longer-from n s next more whole q) e
+longer-from (suc n) s at done whole e = longer-turn (lineAt s at) at done whole (λ (next : ℕ) (more : List Said). readFrom n s next more)
+    (λ next more q. longer-from n s next more whole q) e
 
 pub walk-longer : (s : List ℕ) (at : ℕ) (done whole : List Said) → Walk s at done → readText s ≡ accepted whole → Longer done whole
 walk-longer s at done whole w e = longer-from (w .fuel) s at done whole (w .rest ∙ e)
@@ -108,11 +104,13 @@ final-in done whole x g = rw (g .is, names-append [] (done ++ (final x ∷ [])) 
 
 pub source-in : (done whole : List Said) (x y a : ℕ) → Longer (done ++ (arc x y a ∷ [])) whole → In (names whole) x
 unfolding names
-source-in done whole x y a g = rw (g .is, names-append [] (done ++ (arc x y a ∷ [])) (g .rest), names-snoc [] done (arc x y a)) (in-names _ x (g .rest) (in-keep _ x y (in-add _ x)))
+source-in done whole x y a g = rw (g .is, names-append [] (done ++ (arc x y a ∷ [])) (g .rest), names-snoc [] done (arc x y a))
+    (in-names _ x (g .rest) (in-keep _ x y (in-add _ x)))
 
 pub target-in : (done whole : List Said) (x y a : ℕ) → Longer (done ++ (arc x y a ∷ [])) whole → In (names whole) y
 unfolding names
-target-in done whole x y a g = rw (g .is, names-append [] (done ++ (arc x y a ∷ [])) (g .rest), names-snoc [] done (arc x y a)) (in-names _ y (g .rest) (in-add _ y))
+target-in done whole x y a g = rw (g .is, names-append [] (done ++ (arc x y a ∷ [])) (g .rest), names-snoc [] done (arc x y a))
+    (in-names _ y (g .rest) (in-add _ y))
 
 -- each name once
 pub data Once : List ℕ → Type 0 where

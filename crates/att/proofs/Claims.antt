@@ -10,7 +10,7 @@ use Rattle.book.specs.Reading.{Book, accepted, readBook}
 use Rattle.book.specs.Language.{accepts}
 use Rattle.book.specs.Sound.{arcOf}
 use Rattle.book.specs.Fronts.{closed}
-use Rattle.att.specs.Text.{Said, Read, refused, readText, linesIn, arcCount, stateCount, importDef}
+use Rattle.att.specs.Text.{Said, refused, readText, linesIn, arcCount, stateCount, importDef}
 use Rattle.att.specs.Words.{textWords}
 use Rattle.att.specs.Placed.{latest, withPart, mine, leaves, Holds, importBytes}
 use Rattle.att.proofs.Words as Words

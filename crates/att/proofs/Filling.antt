@@ -17,7 +17,8 @@ fill-put out W o vs n p e h =
     let l = filled-length out W o p in
     let r : n + length vs ≤ length out = omega arith in
     let t : take n out ≡ W = rw (p .is, e) (take-append-seam W (drop (length W) o)) in
-    let d : drop (n + length vs) out ≡ drop (length W + length vs) o = rw (p .is, e) (drop-append-add W (drop (length W) o) (length vs) ∙ drop-drop (length vs) (length W) o) in
+    let d : drop (n + length vs) out ≡ drop (length W + length vs) o = rw (p .is, e) (drop-append-add W (drop (length W) o) (length vs)
+    ∙ drop-drop (length vs) (length W) o) in
     let w = length-append W vs in
     record {
       room = omega arith;
@@ -32,28 +33,25 @@ unfolding stateRecords
 records-length part [] = refl
 records-length part (f ∷ fs) = let h = records-length part fs in omega arith
 
-pub records-snoc : (part : ℕ) (fs : List ℕ) (f : ℕ) → stateRecords part (fs ++ (f ∷ [])) ≡ stateRecords part fs ++ (2 ∷ part ∷ f ∷ [])
+records-snoc : (part : ℕ) (fs : List ℕ) (f : ℕ) → stateRecords part (fs ++ (f ∷ [])) ≡ stateRecords part fs ++ (2 ∷ part ∷ f ∷ [])
 unfolding stateRecords
 records-snoc part [] f = refl
 records-snoc part (g ∷ fs) f = ap (λ (l : List ℕ). 2 ∷ part ∷ g ∷ l) (records-snoc part fs f)
 
-pub replicate-snoc : (m : ℕ) → _++_ {A = ℕ} (replicate m 0) (0 ∷ []) ≡ replicate (suc m) 0
+replicate-snoc : (m : ℕ) → _++_ {A = ℕ} (replicate m 0) (0 ∷ []) ≡ replicate (suc m) 0
 replicate-snoc zero = refl
 replicate-snoc (suc m) = ap (λ (l : List ℕ). 0 ∷ l) (replicate-snoc m)
 
 -- one state's record
-pub states-one : (out : List ℕ) (part f : ℕ) → 3 ≤ length out → Filled (sets out 0 (2 ∷ part ∷ f ∷ [])) (stateRecords part (f ∷ [])) out
+states-one : (out : List ℕ) (part f : ℕ) → 3 ≤ length out → Filled (sets out 0 (2 ∷ part ∷ f ∷ [])) (stateRecords part (f ∷ [])) out
 unfolding stateRecords
 states-one out part f h = fill-put out [] out (2 ∷ part ∷ f ∷ []) 0 (fill-none out) refl (omega arith)
-
--- after m states more
-pub record More (out o : List ℕ) (part m : ℕ) : Type 0 where
-  pub filled : Filled out (stateRecords part (1 ∷ replicate m 0)) o
 
 module _ (out o : List ℕ) (part m : ℕ) (p : Filled out (stateRecords part (1 ∷ replicate m 0)) o) where
   pub states-more : 3 * m + 6 ≤ length o → Filled (sets out (3 * (m + 1)) (2 ∷ part ∷ 0 ∷ [])) (stateRecords part (1 ∷ replicate (m + 1) 0)) o
   states-more h =
-      let r : length (stateRecords part (1 ∷ replicate m 0)) ≡ 3 * (m + 1) = rw (records-length part (1 ∷ replicate m 0), length-replicate {A = ℕ} m 0) (omega arith) in
+      let r : length (stateRecords part (1 ∷ replicate m 0)) ≡ 3 * (m + 1)
+      = rw (records-length part (1 ∷ replicate m 0), length-replicate {A = ℕ} m 0) (omega arith) in
       let e : stateRecords part (1 ∷ replicate (m + 1) 0) ≡ stateRecords part (1 ∷ replicate m 0) ++ (2 ∷ part ∷ 0 ∷ [])
       = rw (add-one, ← replicate-snoc m) (records-snoc part (1 ∷ replicate m 0) 0) in
       rw e (fill-put out (stateRecords part (1 ∷ replicate m 0)) o (2 ∷ part ∷ 0 ∷ []) (3 * (m + 1)) p (sym r) (omega arith))
@@ -65,7 +63,8 @@ three o at a b d =
     let f : at + 2 ≡ suc (suc at) = omega arith in
     rw (e, f)
 
-pub five : (o : List ℕ) (at a b d e f : ℕ) → set (set (set (set (set o at a) (at + 1) b) (at + 2) d) (at + 3) e) (at + 4) f ≡ put o at (a ∷ b ∷ d ∷ e ∷ f ∷ [])
+pub five : (o : List ℕ) (at a b d e f : ℕ) → set (set (set (set (set o at a) (at + 1) b) (at + 2) d) (at + 3) e) (at + 4) f
+    ≡ put o at (a ∷ b ∷ d ∷ e ∷ f ∷ [])
 unfolding put
 five o at a b d e f =
     let x : at + 1 ≡ suc at = omega arith in
@@ -109,15 +108,16 @@ pub fresh-zero : (n : ℕ) → n ≡ 0 → fresh n ≡ 0 ∷ []
 unfolding fresh
 fresh-zero n e = rw e
 
-pub fresh-is : (m n : ℕ) → m + 1 ≡ n → fresh n ≡ 1 ∷ replicate m 0
+fresh-is : (m n : ℕ) → m + 1 ≡ n → fresh n ≡ 1 ∷ replicate m 0
 unfolding fresh
 fresh-is m n e = rw (← e, add-one)
 
-pub states-none : (o : List ℕ) (part n : ℕ) → n ≡ 0 → 3 ≤ length o → Filled (sets o 0 (2 ∷ part ∷ 0 ∷ [])) (stateRecords part (fresh n)) o
+states-none : (o : List ℕ) (part n : ℕ) → n ≡ 0 → 3 ≤ length o → Filled (sets o 0 (2 ∷ part ∷ 0 ∷ [])) (stateRecords part (fresh n)) o
 states-none o part n e h = rw (fresh-zero n e) (states-one o part 0 h)
 
 -- all n states, where the loop began at a
-pub states-all : (out a o : List ℕ) (part m n : ℕ) → m + 1 ≡ n → Filled out (stateRecords part (1 ∷ replicate m 0)) a → Filled a (stateRecords part (1 ∷ [])) o → Filled out (stateRecords part (fresh n)) o
+pub states-all : (out a o : List ℕ) (part m n : ℕ) → m + 1 ≡ n → Filled out (stateRecords part (1 ∷ replicate m 0)) a
+    → Filled a (stateRecords part (1 ∷ [])) o → Filled out (stateRecords part (fresh n)) o
 states-all out a o part m n e p q =
     let u = records-length part (1 ∷ replicate m 0) in
     let v = records-length part (1 ∷ []) in
@@ -132,7 +132,8 @@ pub left-none : (l o : List ℕ) (part n : ℕ) → l ≡ put o 0 (2 ∷ part �
 unfolding put
 left-none l o part n e z h = rw e (states-none o part n z h)
 
-pub left-more : (l out o : List ℕ) (part m : ℕ) → l ≡ put out (3 * (m + 1)) (2 ∷ part ∷ 0 ∷ []) → Filled out (stateRecords part (1 ∷ replicate m 0)) o → 3 * m + 6 ≤ length o → Filled l (stateRecords part (1 ∷ replicate (m + 1) 0)) o
+pub left-more : (l out o : List ℕ) (part m : ℕ) → l ≡ put out (3 * (m + 1)) (2 ∷ part ∷ 0 ∷ []) → Filled out (stateRecords part (1 ∷ replicate m 0)) o
+    → 3 * m + 6 ≤ length o → Filled l (stateRecords part (1 ∷ replicate (m + 1) 0)) o
 unfolding put
 left-more l out o part m e p h = rw e (states-more out o part m p h)
 

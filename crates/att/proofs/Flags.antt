@@ -1,24 +1,20 @@
 -- The second pass: what stands in the output after the lines that are done.
-use Prim.Native.Nat.{ℕ, zero, suc, _+_, _-_, _*_, _≤_, _<_}
+use Prim.Native.Nat.{ℕ, zero, suc, _+_, _*_, _≤_, _<_}
 use mathlib.Core.Path.{_≡_, refl, ap, sym, _∙_, subst}
 use mathlib.Core.List.{List, [], _∷_, _++_, append-assoc, append-nil}
-use mathlib.Core.Bool.{Bool, true, false, _||_, cond}
+use mathlib.Core.Bool.{Bool, true, _||_}
 use mathlib.Core.Bool as B
 use native.Mathlib.Omega.{arith}
-use native.Mathlib.Decide.{decLt, ℕ-discrete}
-use lib.Dec.{eqb, ltb}
-use lib.ListN.{length, take, drop, set, replicate, length-append, length-set, length-replicate, take-append-drop}
-use lib.Seq.{sets, set-append-left, length-take-le}
+use native.Mathlib.Decide.{ℕ-discrete}
+use lib.ListN.{length, set, replicate, length-append, length-replicate}
 use borrow.Author.Tests.{eq-eqb, ne-eqb}
 use Rattle.book.specs.Format.{acceptFlag, bothFlags}
-use Rattle.att.specs.Text.{Said, arc, final, idx, names, stateCount, arcOne, arcCount, finalFor, isFinal, flagsFrom, flags, stateRecords, arcRecord, arcRecords}
+use Rattle.att.specs.Text.{Said, arc, final, idx, names, stateCount, arcOne, arcCount, finalFor, isFinal, flagsFrom, flags, stateRecords}
+use Rattle.att.specs.Text.{arcRecord, arcRecords}
 use Rattle.att.specs.Survey.{fresh, finalFlags}
-use Rattle.att.specs.declared.reading.Line.{Line}
-use Rattle.att.specs.declared.reading.Line.the-variants.{End, Final, Arc, Faulty}
-use Rattle.att.proofs.Names.{idx-here, idx-there, idx-le}
-use Rattle.att.proofs.Surveying.{Walk, walk-start, walk-end, walk-refused, walk-final, walk-arc, arcs-snoc}
-use Rattle.att.proofs.Filling.{filled-length, filled-self, fill-put, records-length, fresh-length, fresh-more}
-use Rattle.att.proofs.Appearing.{Longer, walk-longer, In, final-in, source-in, target-in, Once, none, one, once-names}
+use Rattle.att.proofs.Names.{idx-here, idx-there}
+use Rattle.att.proofs.Filling.{fresh-more}
+use Rattle.att.proofs.Appearing.{In, Once, one}
 
 final-snoc : (ls : List Said) (l : Said) (q : ℕ) → isFinal (ls ++ (l ∷ [])) q ≡ (isFinal ls q || finalFor l q)
 unfolding isFinal
@@ -49,7 +45,8 @@ flags-other : (start : ℕ) (ls : List Said) (x : ℕ) (S : List ℕ) → idx S 
 flags-other start ls x [] h = refl
 flags-other start ls x (q ∷ S) h = by-case (ℕ-discrete q x) (λ k. flags-other 0 ls x S k)
   where
-    by-case : Dec (q ≡ x) → (idx S x ≡ length S → flagsFrom 0 (ls ++ (final x ∷ [])) S ≡ flagsFrom 0 ls S) → flagsFrom start (ls ++ (final x ∷ [])) (q ∷ S) ≡ flagsFrom start ls (q ∷ S)
+    by-case : Dec (q ≡ x) → (idx S x ≡ length S → flagsFrom 0 (ls ++ (final x ∷ [])) S ≡ flagsFrom 0 ls S)
+        → flagsFrom start (ls ++ (final x ∷ [])) (q ∷ S) ≡ flagsFrom start ls (q ∷ S)
     by-case (yes e) f = let k = idx-here q x S e in let w : ⊥ = omega arith in absurd w
     by-case (no e) f = let k = idx-there q x S e in rw (same-flag ls x q (λ z. e (sym z)), f (omega arith))
 
@@ -57,7 +54,8 @@ abbrev mark : ℕ → ℕ → ℕ
 mark start zero = start + 2
 mark start (suc k) = 2
 
-flags-final-from : (start : ℕ) (ls : List Said) (x : ℕ) (S : List ℕ) → Once S → In S x → flagsFrom start (ls ++ (final x ∷ [])) S ≡ set (flagsFrom start ls S) (idx S x) (mark start (idx S x))
+flags-final-from : (start : ℕ) (ls : List Said) (x : ℕ) (S : List ℕ) → Once S → In S x
+    → flagsFrom start (ls ++ (final x ∷ [])) S ≡ set (flagsFrom start ls S) (idx S x) (mark start (idx S x))
 flags-final-from start ls x [] o h = let w : ⊥ = omega arith in absurd w
 flags-final-from start ls x (q ∷ S) (one k o) h = by-case (ℕ-discrete q x) (λ g. flags-final-from 0 ls x S o g)
   where
@@ -114,7 +112,8 @@ flags-long ls (q ∷ S) = ap suc (flags-long-from 0 ls S ∙ sym (length-replica
 pub arcs-more : (first : ℕ) (S : List ℕ) (ls : List Said) (l : Said) → arcRecords first S (ls ++ (l ∷ [])) ≡ arcRecords first S ls ++ arcRecord first S l
 unfolding arcRecords
 arcs-more first S [] l = append-nil (arcRecord first S l)
-arcs-more first S (m ∷ ls) l = ap (λ (r : List ℕ). arcRecord first S m ++ r) (arcs-more first S ls l) ∙ sym (append-assoc (arcRecord first S m) (arcRecords first S ls) (arcRecord first S l))
+arcs-more first S (m ∷ ls) l = ap (λ (r : List ℕ). arcRecord first S m ++ r) (arcs-more first S ls l)
+    ∙ sym (append-assoc (arcRecord first S m) (arcRecords first S ls) (arcRecord first S l))
 
 arc-long : (first : ℕ) (S : List ℕ) (l : Said) → length (arcRecord first S l) ≡ 5 * arcOne l
 arc-long first S (arc x y a) = refl
@@ -123,7 +122,8 @@ arc-long first S (final x) = refl
 pub arcs-long : (first : ℕ) (S : List ℕ) (ls : List Said) → length (arcRecords first S ls) ≡ 5 * arcCount ls
 unfolding arcRecords arcCount
 arcs-long first S [] = refl
-arcs-long first S (l ∷ ls) = let h = arcs-long first S ls in let k = arc-long first S l in let m = length-append (arcRecord first S l) (arcRecords first S ls) in omega arith
+arcs-long first S (l ∷ ls) = let h = arcs-long first S ls in let k = arc-long first S l in let m =
+    length-append (arcRecord first S l) (arcRecords first S ls) in omega arith
 
 pub arcs-append : (ls ms : List Said) → arcCount (ls ++ ms) ≡ arcCount ls + arcCount ms
 unfolding arcCount

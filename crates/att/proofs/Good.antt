@@ -1,10 +1,10 @@
 -- What holds of every line: a good line lies in the text and ends after its start; a refusal is not 0.
-use Prim.Native.Nat.{ℕ, zero, suc, _+_, _-_, _≤_, _<_}
-use mathlib.Core.Path.{_≡_, refl, ap, sym, _∙_}
-use mathlib.Core.List.{List, [], _∷_}
+use Prim.Native.Nat.{ℕ, _+_, _≤_, _<_}
+use mathlib.Core.Path.{_≡_, refl}
+use mathlib.Core.List.{List}
 use mathlib.Core.Bool.{Bool, true, false, _||_, not}
 use native.Mathlib.Omega.{arith}
-use lib.Dec.{eqb, leb, ltb}
+use lib.Dec.{eqb, leb}
 use lib.ListN.{length, drop, length-drop}
 use borrow.Author.Tests.{ltb-true, leb-true, leb-false}
 use Rattle.att.specs.Fields.{field1, field2, field3, fieldCount, isNumber}
@@ -59,8 +59,8 @@ good-line s at =
     pick-both (Good at (length s)) (leb (length s) at) _ _ (λ e. leb-true _ _ e)
     (λ e. pick-both (Good at (length s)) (ended (drop at s)) _ _
     (λ f.
-        let h : length (lineOf (drop at s)) < length (drop at s) = ltb-true _ _ f in
-        let k : at < length s = leb-false _ _ e in
-        let d = length-drop at s in
-        line-good at (length s) (lineOf (drop at s)) (at + length (lineOf (drop at s)) + 1) (omega arith) (omega arith))
+    let h : length (lineOf (drop at s)) < length (drop at s) = ltb-true _ _ f in
+    let k : at < length s = leb-false _ _ e in
+    let d = length-drop at s in
+    line-good at (length s) (lineOf (drop at s)) (at + length (lineOf (drop at s)) + 1) (omega arith) (omega arith))
     (λ f. cut-good at (length s) (lineOf (drop at s)) 0))

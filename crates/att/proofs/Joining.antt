@@ -2,9 +2,9 @@
 use Prim.Native.Nat.{ℕ, zero, suc, _+_, _-_, _*_, _≤_, _<_}
 use mathlib.Core.Path.{_≡_, refl, ap, ap₂, sym, _∙_, subst}
 use mathlib.Core.List.{List, [], _∷_, _++_, append-assoc, append-nil}
-use mathlib.Core.Bool.{Bool, true, false, _&&_, _||_}
+use mathlib.Core.Bool.{Bool, false, _&&_, _||_}
 use native.Mathlib.Omega.{arith}
-use lib.Dec.{eqb, leb, ltb}
+use lib.Dec.{eqb, ltb}
 use lib.ListN.{length, drop, getD, length-append, List·getD-append}
 use lib.Seq.{drop-drop, drop-append-seam, getD-append-add}
 use borrow.Author.Tests.{lt-leb}
@@ -87,8 +87,10 @@ module _ (b : Book) (at part : ℕ) (ls : List Said) where
         early = b .arcs;
         late = X;
         arcs = f ∙ append-assoc (b .arcs) (partArcs first (names ls) ls) X;
-        apart = no-arc (leaves first (stateCount ls)) (b .arcs) (λ j h. ap (λ (t : Bool). t && ltb (arcOf b j .from) (first + stateCount ls)) (lt-leb first (arcOf b j .from) (sound .arc j h .from)));
-        aside = no-arc (leaves first (stateCount ls)) X (λ j h. ap (leaves first (stateCount ls)) (late j) ∙ aside (length (B′ .arcs) + j) (omega (arith, all-arcs)) (omega (arith, h, many)));
+        apart = no-arc (leaves first (stateCount ls)) (b .arcs) (λ j h. ap (λ (t : Bool). t && ltb (arcOf b j .from) (first + stateCount ls))
+            (lt-leb first (arcOf b j .from) (sound .arc j h .from)));
+        aside = no-arc (leaves first (stateCount ls)) X (λ j h. ap (leaves first (stateCount ls)) (late j)
+            ∙ aside (length (B′ .arcs) + j) (omega (arith, all-arcs)) (omega (arith, h, many)));
       }
     where
       long : length (C .states) ≡ length (B′ .states) + length N
@@ -128,7 +130,8 @@ module _ (front : List ℕ) (b : Book) (e : readBook (closed front) ≡ accepted
   front-part part ls fits =
       let W : List ℕ = written part (length (b .states)) ls in
       let t = behind front (W ++ (endKind ∷ [])) b e in
-      let l : length (W ++ (endKind ∷ [])) ≡ needed ls + 1 = length-append W (endKind ∷ []) ∙ ap (λ (n : ℕ). n + 1) (written-length part (length (b .states)) ls) in
+      let l : length (W ++ (endKind ∷ [])) ≡ needed ls + 1 = length-append W (endKind ∷ [])
+      ∙ ap (λ (n : ℕ). n + 1) (written-length part (length (b .states)) ls) in
       let n : ℕ = t .fuel - (stateCount ls + arcCount ls) - 1 in
       let m = t .enough in
       let f : t .fuel ≡ stateCount ls + (arcCount ls + suc n) = omega arith in
@@ -143,9 +146,18 @@ module _ (front : List ℕ) (b : Book) (e : readBook (closed front) ≡ accepted
       ∙ read-last s (length front + needed ls) (withPart b (length front) part ls) (fits .some) c n
 
   -- what an accepting answer of IMPORT and room for the arcs give
-  fits : (s : List ℕ) (part : ℕ) (out : List ℕ) → Taken s part (length (b .states)) out → length (b .arcs) + arcCount (linesIn (readText s)) ≤ mostArcs → Fits b part (linesIn (readText s))
+  fits : (s : List ℕ) (part : ℕ) (out : List ℕ) → Taken s part (length (b .states)) out → length (b .arcs) + arcCount (linesIn (readText s)) ≤ mostArcs
+      → Fits b part (linesIn (readText s))
   fits s part out t room =
-      record { some = front-rule; first = front-sound .first; states = t .top; arcs = room; low = t .low; symbols = text-symbols s (linesIn (readText s)) (t .read) }
+      record {
+        some = front-rule;
+        first = front-sound .first;
+        states = t .top;
+        arcs = room;
+        low = t .low;
+        symbols =
+            text-symbols s (linesIn (readText s)) (t .read);
+      }
 
   module _ (s : List ℕ) (part : ℕ) (out : List ℕ) (z : importDef s part (length (b .states)) out .answer .reply ≡ 0)
       (room : length (b .arcs) + arcCount (linesIn (readText s)) ≤ mostArcs) where
@@ -170,7 +182,8 @@ module _ (front : List ℕ) (b : Book) (e : readBook (closed front) ≡ accepted
 
     module _ (none : (k : ℕ) → k < length (b .states) → mine b (latest b) part k ≡ false) where
       pub import-words : (w : List ℕ) → accepts (withPart b (length front) part lines) (latest b) part w ≡ textWords lines w
-      import-words w = words (withPart b (length front) part lines) (latest b) part (length (b .states)) lines (holds-part b (length front) part lines front-sound none) w
+      import-words w = words (withPart b (length front) part lines) (latest b) part (length (b .states)) lines
+          (holds-part b (length front) part lines front-sound none) w
 
       -- in a book that goes on with states of other parts and arcs that leave other states
       pub import-within : (rest : List ℕ) (B : Book) → readBook (front ++ (bytes ++ rest)) ≡ accepted B
@@ -187,5 +200,6 @@ module _ (front : List ℕ) (b : Book) (e : readBook (closed front) ≡ accepted
     import-keeps r k other w =
         keeps b (partStates (latest b) part (length front) (flags lines (names lines))) (partArcs (length (b .states)) (names lines) lines) front-sound
         (part-arcs-from (length (b .states)) (names lines) lines) r k
-        (λ j l e f. (let p = part-state (latest b) part (length front) (flags lines (names lines)) j (omega (arith, part-long (latest b) part (length front) (flags lines (names lines)))) in
+        (λ j l e f. (let p = part-state (latest b) part (length front) (flags lines (names lines)) j
+        (omega (arith, part-long (latest b) part (length front) (flags lines (names lines)))) in
         other (sym e ∙ ap (λ (st : State). st .rule) p) (sym f ∙ ap (λ (st : State). st .part) p))) w

@@ -1,5 +1,5 @@
 -- What stands behind a book's records leaves the other parts as they are: states of another part, and arcs that leave no state from before. Assumes nothing.
-use Prim.Native.Nat.{ℕ, zero, suc, _+_, _-_, _≤_, _<_}
+use Prim.Native.Nat.{ℕ, suc, _+_, _-_, _≤_, _<_}
 use mathlib.Core.Path.{_≡_, refl, ap, ap₂, sym, _∙_, subst}
 use mathlib.Core.List.{List, [], _∷_, _++_}
 use mathlib.Core.Bool.{Bool, true, false, _&&_, _||_}
@@ -100,7 +100,8 @@ module _ (b : Book) (N : List State) (X : List Arc) (sound : Sound b) where
               let z = any-up (begins longer w) 0 (length (longer .states)) .0 t in
               let p = z .0 in
               let s = and-left (has longer startFlag p) (someState longer (ends longer w p)) (z .3) in
-              let y = any-up (ends longer w p) 0 (length (longer .states)) .0 (and-right (has longer startFlag p) (someState longer (ends longer w p)) (z .3)) in
+              let y = any-up (ends longer w p) 0 (length (longer .states)) .0
+              (and-right (has longer startFlag p) (someState longer (ends longer w p)) (z .3)) in
               let q = y .0 in
               let a = and-left (has longer acceptFlag q) (leads (longer .arcs) p w q) (y .3) in
               let lp = is-old startFlag p (omega (arith, z .2)) s in
@@ -108,7 +109,13 @@ module _ (b : Book) (N : List State) (X : List Arc) (sound : Sound b) where
               let run = subst T (same-runs w p q lp) (and-right (has longer acceptFlag q) (leads (longer .arcs) p w q) (y .3)) in
               let end = and-both (has b acceptFlag q) (leads (b .arcs) p w q) (subst T (same-has acceptFlag q lq) a) run in
               let some = any-up (ends b w p) 0 n .1 (q, y .1, omega (arith, lq), end) in
-              any-up (begins b w) 0 n .1 (p, z .1, omega (arith, lp), and-both (has b startFlag p) (someState b (ends b w p)) (subst T (same-has startFlag p lp) s) some)
+              any-up (begins b w) 0 n .1 (
+                p,
+                z .1,
+                omega (arith, lp),
+                and-both (has b startFlag p) (someState b (ends b w p))
+                    (subst T (same-has startFlag p lp) s) some,
+              )
 
           back : T (accepts b r part w) → T (accepts longer r part w)
           back t =
@@ -123,5 +130,10 @@ module _ (b : Book) (N : List State) (X : List Arc) (sound : Sound b) where
               let run = subst T (sym (same-runs w p q lp)) (and-right (has b acceptFlag q) (leads (b .arcs) p w q) (y .3)) in
               let end = and-both (has longer acceptFlag q) (leads (longer .arcs) p w q) (subst T (sym (same-has acceptFlag q lq)) a) run in
               let some = any-up (ends longer w p) 0 (length (longer .states)) .1 (q, y .1, omega (arith, len, lq), end) in
-              any-up (begins longer w) 0 (length (longer .states)) .1
-              (p, z .1, omega (arith, len, lp), and-both (has longer startFlag p) (someState longer (ends longer w p)) (subst T (sym (same-has startFlag p lp)) s) some)
+              any-up (begins longer w) 0 (length (longer .states)) .1 (
+                p,
+                z .1,
+                omega (arith, len, lp),
+                and-both (has longer startFlag p) (someState longer (ends longer w p))
+                    (subst T (sym (same-has startFlag p lp)) s) some,
+              )

@@ -1,13 +1,13 @@
 -- Laws of the numbers of states by first appearance, and of the list that the first pass keeps.
-use Prim.Native.Nat.{ℕ, zero, suc, _+_, _-_, _≤_, _<_}
-use mathlib.Core.Path.{_≡_, refl, ap, sym, _∙_, subst}
+use Prim.Native.Nat.{ℕ, suc, _+_, _≤_, _<_}
+use mathlib.Core.Path.{_≡_, refl, ap, sym, _∙_}
 use mathlib.Core.List.{List, [], _∷_, _++_}
 use mathlib.Core.Bool.{Bool, true, false}
 use native.Mathlib.Numerals.{add-one}
 use native.Mathlib.Omega.{arith}
 use native.Mathlib.Decide.{decLt}
-use lib.Dec.{eqb, ltb}
-use lib.ListN.{length, take, drop, getD, set, length-append, length-set, length-take}
+use lib.Dec.{eqb}
+use lib.ListN.{length, take, drop, getD, set, length-append, length-set}
 use lib.Seq.{getD-take, length-take-le, take-suc-set}
 use borrow.Author.Tests.{eq-eqb, ne-eqb, lt-ltb, le-ltb}
 use Rattle.att.specs.Text.{idx, add}
@@ -63,7 +63,7 @@ pub add-new : (S : List ℕ) (x : ℕ) → length S ≤ idx S x → add S x ≡ 
 unfolding add
 add-new S x h = rw (add, le-ltb _ _ h)
 
-pub add-longer : (S : List ℕ) (x : ℕ) → length S ≤ length (add S x)
+add-longer : (S : List ℕ) (x : ℕ) → length S ≤ length (add S x)
 add-longer S x = by-case (decLt (idx S x) (length S))
   where
     by-case : Dec (idx S x < length S) → length S ≤ length (add S x)
@@ -119,7 +119,8 @@ module _ (known : Known) (x : ℕ) where
     pub entered-new : known .count < 64 → known .count ≤ k → Entered known (record { list = set (known .list) (known .count) x; count = known .count + 1 }) x
     entered-new f l = record { room = omega arith; lists = λ S p. more S p (found S p) (p .few (few-states S p h)) (says S p h) }
       where
-        more : (S : List ℕ) → Lists known S → k ≡ idx S x → known .count ≡ length S → take (known .count) (known .list) ≡ S → Lists (record { list = set (known .list) (known .count) x; count = known .count + 1 }) (add S x)
+        more : (S : List ℕ) → Lists known S → k ≡ idx S x → known .count ≡ length S → take (known .count) (known .list) ≡ S
+            → Lists (record { list = set (known .list) (known .count) x; count = known .count + 1 }) (add S x)
         more S p q w t =
             let a = add-new S x (omega arith) in
             let n : length (add S x) ≡ known .count + 1 = rw (a, w) (simp length-append) in

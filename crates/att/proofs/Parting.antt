@@ -1,12 +1,11 @@
 -- Laws of fields: one byte more of `before`, `past`, `count`, `digits` and `valueFrom`; the cap.
-use Prim.Native.Nat.{ℕ, zero, suc, _+_, _-_, _*_, _≤_, _<_}
+use Prim.Native.Nat.{ℕ, suc, _+_, _-_, _*_, _≤_, _<_}
 use mathlib.Core.Path.{_≡_, refl, ap, sym, _∙_}
 use mathlib.Core.List.{List, [], _∷_}
-use mathlib.Core.Bool.{Bool, true, false, _&&_, not, cond}
-use mathlib.Core.Logic.{_⊎_, inl, inr}
+use mathlib.Core.Bool.{Bool, true, false, _&&_, cond}
 use native.Mathlib.Numerals.{add-one}
 use native.Mathlib.Omega.{arith}
-use lib.Dec.{eqb, leb, ltb}
+use lib.Dec.{eqb, leb}
 use native.Mathlib.Decide.{decLt}
 use lib.ListN.{length, take, drop, getD, length-drop, drop-of-length-le}
 use lib.Seq.{drop-cons, drop-length, take-all}
@@ -34,7 +33,8 @@ module _ (b : ℕ) (s : List ℕ) (i : ℕ) (all : i + length (before b (drop i 
   span-met h e = let z : length (before b (drop i s)) ≡ 0 = rw (drop-one s i h, before-met b (getD s i 0) (drop (i + 1) s) e) in omega arith
 
   pub span-more : i < length s → (getD s i 0 ≡ b → ⊥) → i + 1 + length (before b (drop (i + 1) s)) ≡ length (before b s)
-  span-more h e = let z : length (before b (drop i s)) ≡ suc (length (before b (drop (i + 1) s))) = rw (drop-one s i h, before-not b (getD s i 0) (drop (i + 1) s) e) in omega arith
+  span-more h e = let z : length (before b (drop i s)) ≡ suc (length (before b (drop (i + 1) s))) =
+      rw (drop-one s i h, before-not b (getD s i 0) (drop (i + 1) s) e) in omega arith
 
   pub span-end : i ≤ length s → length s ≤ i → i ≡ length (before b s)
   unfolding before
@@ -50,30 +50,33 @@ before-short b [] = omega arith
 before-short b (x ∷ s) = before-short-by (eqb x b) x (before b s) s (before-short b s)
 
 -- the front as a part of the list, and what is past it
-before-take-by : (t : Bool) (x : ℕ) (m s : List ℕ) → take (length m) s ≡ m → take (length {A = ℕ} (elim t [ true ↦ [] | false ↦ x ∷ m ])) (x ∷ s) ≡ elim t [ true ↦ [] | false ↦ x ∷ m ]
+before-take-by : (t : Bool) (x : ℕ) (m s : List ℕ) → take (length m) s ≡ m
+    → take (length {A = ℕ} (elim t [ true ↦ [] | false ↦ x ∷ m ])) (x ∷ s) ≡ elim t [ true ↦ [] | false ↦ x ∷ m ]
 before-take-by true x m s h = refl
 before-take-by false x m s h = ap (λ (l : List ℕ). x ∷ l) h
 
-pub before-take : (b : ℕ) (s : List ℕ) → take (length (before b s)) s ≡ before b s
+before-take : (b : ℕ) (s : List ℕ) → take (length (before b s)) s ≡ before b s
 unfolding before
 before-take b [] = refl
 before-take b (x ∷ s) = before-take-by (eqb x b) x (before b s) s (before-take b s)
 
-past-drop-by : (t : Bool) (x : ℕ) (m p s : List ℕ) → drop (suc (length m)) s ≡ p → drop (length {A = ℕ} (elim t [ true ↦ [] | false ↦ x ∷ m ])) s ≡ elim t [ true ↦ s | false ↦ p ]
+past-drop-by : (t : Bool) (x : ℕ) (m p s : List ℕ) → drop (suc (length m)) s ≡ p
+    → drop (length {A = ℕ} (elim t [ true ↦ [] | false ↦ x ∷ m ])) s ≡ elim t [ true ↦ s | false ↦ p ]
 past-drop-by true x m p s h = refl
 past-drop-by false x m p s h = h
 
-pub past-drop : (b : ℕ) (s : List ℕ) → drop (suc (length (before b s))) s ≡ past b s
+past-drop : (b : ℕ) (s : List ℕ) → drop (suc (length (before b s))) s ≡ past b s
 unfolding before past
 past-drop b [] = refl
 past-drop b (x ∷ s) = past-drop-by (eqb x b) x (before b s) (past b s) s (past-drop b s)
 
 -- with no b, all stands before it
-past-none-by : (t : Bool) (x : ℕ) (m p s : List ℕ) → (length s ≤ length m → p ≡ []) → length (x ∷ s) ≤ length {A = ℕ} (elim t [ true ↦ [] | false ↦ x ∷ m ]) → _≡_ {A = List ℕ} (elim t [ true ↦ s | false ↦ p ]) []
+past-none-by : (t : Bool) (x : ℕ) (m p s : List ℕ) → (length s ≤ length m → p ≡ [])
+    → length (x ∷ s) ≤ length {A = ℕ} (elim t [ true ↦ [] | false ↦ x ∷ m ]) → _≡_ {A = List ℕ} (elim t [ true ↦ s | false ↦ p ]) []
 past-none-by true x m p s f h = let w : ⊥ = omega arith in absurd w
 past-none-by false x m p s f h = f (omega arith)
 
-pub past-none : (b : ℕ) (s : List ℕ) → length s ≤ length (before b s) → past b s ≡ []
+past-none : (b : ℕ) (s : List ℕ) → length s ≤ length (before b s) → past b s ≡ []
 unfolding before past
 past-none b [] h = refl
 past-none b (x ∷ s) h = past-none-by (eqb x b) x (before b s) (past b s) s (past-none b s) h
@@ -97,7 +100,7 @@ unfolding fieldCount
 count-start l = refl
 
 -- numbers
-pub value-grows : (f : List ℕ) (v : ℕ) → v ≤ valueFrom v f
+value-grows : (f : List ℕ) (v : ℕ) → v ≤ valueFrom v f
 unfolding valueFrom
 value-grows [] v = omega arith
 value-grows (x ∷ f) v = let h = value-grows f (v * 10 + (x - 48)) in omega arith
@@ -106,7 +109,7 @@ pub capped-small : (v : ℕ) → v ≤ 65535 → capped v ≡ v
 unfolding capped
 capped-small v h = simp (le-leb v 65535 h)
 
-pub capped-top : (v : ℕ) → capped v ≤ 65536
+capped-top : (v : ℕ) → capped v ≤ 65536
 unfolding capped
 capped-top v = by-test (leb v 65535) (λ e. leb-true v 65535 e)
   where
@@ -179,7 +182,8 @@ module _ (f : List ℕ) (v i : ℕ) (p : Digits f v i) where
         within = omega arith;
         top = rw e (capped-top _);
         good = sym (a-digit _ _ k m) ∙ ap digits (sym (drop-one f i h)) ∙ p .good;
-        worth = rw e (capped-in (v * 10 + (getD f i 0 - 48)) (drop (i + 1) f)) ∙ ap (λ (l : List ℕ). capped (valueFrom v l)) (sym (drop-one f i h)) ∙ p .worth;
+        worth = rw e (capped-in (v * 10 + (getD f i 0 - 48)) (drop (i + 1) f)) ∙ ap (λ (l : List ℕ). capped (valueFrom v l)) (sym (drop-one f i h))
+            ∙ p .worth;
       }
 
   pub number-end : length f ≤ i → v ≡ readNumber f
@@ -207,4 +211,3 @@ pub rest-none : (b : ℕ) (s : List ℕ) (e : ℕ) → e ≡ length (before b s)
 rest-none b s e q h =
     let k : length (drop e s) ≤ length s - e = simp length-drop (omega arith) in
     take-all _ _ k ∙ drop-of-length-le s h ∙ sym (past-none b s (omega arith))
-

@@ -1,19 +1,19 @@
 -- CHECK reads IMPORT's records: they pass its tests where they stand, and give the part's states and arcs. Assumes nothing.
-use Prim.Native.Nat.{ℕ, zero, suc, _+_, _-_, _*_, _≤_, _<_}
-use mathlib.Core.Path.{_≡_, refl, ap, sym, _∙_, subst}
+use Prim.Native.Nat.{ℕ, zero, suc, _+_, _*_, _≤_, _<_}
+use mathlib.Core.Path.{_≡_, refl, ap, sym, _∙_}
 use mathlib.Core.List.{List, [], _∷_, _++_, append-assoc, append-nil}
 use mathlib.Core.Bool.{Bool, true, false, cond}
 use native.Mathlib.Nat.{suc-add}
 use native.Mathlib.Omega.{arith}
-use lib.ListN.{length, drop, getD, length-append, List·getD-append}
+use lib.ListN.{length, drop, getD, length-append}
 use lib.Seq.{drop-drop, drop-append-seam, getD-append-add}
 use Rattle.book.specs.Format.{mostStates, mostArcs, rightPart, bothFlags, startFlag, acceptFlag, stateSize, arcSize}
 use Rattle.book.specs.Reading.{State, Arc, Book, readFrom, withState, withArc}
 use Rattle.book.specs.Language.{noState, stateOf}
 use Rattle.book.proofs.Sound.{ArcPassed}
 use Rattle.book.proofs.Records.{read-state, read-arc}
-use Rattle.att.specs.Text.{Said, arc, final, idx, namesFrom, names, arcCount, isFinal, flagsFrom, flags, stateRecords, arcRecords, written, stateCount, needed}
-use Rattle.att.specs.Placed.{partArc, partArcs, partStates, latest, withPart}
+use Rattle.att.specs.Text.{Said, arc, final, idx, names, arcCount, isFinal, flagsFrom, flags, stateRecords, arcRecords, written, stateCount, needed}
+use Rattle.att.specs.Placed.{partArcs, partStates, latest, withPart}
 use Rattle.att.proofs.Filling.{records-length}
 use Rattle.att.proofs.Flags.{names-few}
 use Rattle.att.proofs.Symbols.{Symbols}
@@ -154,11 +154,13 @@ module _ (s : List ℕ) (at : ℕ) (b : Book) (part : ℕ) (ls : List Said) (R :
       → readFrom (stateCount ls + (arcCount ls + n)) s at b ≡ readFrom n s (at + needed ls) (withPart b at part ls)
   unfolding written names
   read-part e n =
-      let d : drop at s ≡ stateRecords part fs ++ (arcRecords first (names ls) ls ++ R) = e ∙ append-assoc (stateRecords part fs) (arcRecords first (names ls) ls) R in
+      let d : drop at s ≡ stateRecords part fs ++ (arcRecords first (names ls) ls ++ R) = e
+      ∙ append-assoc (stateRecords part fs) (arcRecords first (names ls) ls) R in
       let l = records-length part fs in
       let f : drop (at + stateSize * length fs) s ≡ arcRecords first (names ls) ls ++ R
       = sym (drop-drop (stateSize * length fs) at s) ∙ rw (d, ← l) (drop-append-seam (stateRecords part fs) (arcRecords first (names ls) ls ++ R)) in
       let y : at + stateSize * length fs + arcSize * arcCount ls ≡ at + needed ls = omega arith in
       read-states part fs s at b (arcRecords first (names ls) ls ++ R) d (h .some) (h .states) (h .low) (all-flagged ls (names ls)) (arcCount ls + n)
-      ∙ read-arcs first (names ls) part ls s (at + stateSize * length fs) (addStates b at part fs) R f (h .some) (h .arcs) given (named-from [] ls) (h .symbols) n
+      ∙ read-arcs first (names ls) part ls s (at + stateSize * length fs) (addStates b at part fs) R f (h .some) (h .arcs) given (named-from [] ls)
+      (h .symbols) n
       ∙ ap (λ (m : ℕ). readFrom n s m (withPart b at part ls)) y

@@ -1,13 +1,14 @@
 -- From the first pass to the answer, and from the writing to the output.
-use Prim.Native.Nat.{ℕ, zero, suc, _-_, _*_, _≤_, _<_}
+use Prim.Native.Nat.{ℕ, _*_, _≤_, _<_}
 use mathlib.Core.Path.{_≡_, refl, ap, sym, _∙_, subst}
 use mathlib.Core.List.{List}
 use native.Mathlib.Omega.{arith}
 use native.Mathlib.Decide.{decLt}
-use lib.ListN.{length, length-replicate, length-append}
+use lib.ListN.{length, length-append}
 use lib.Seq.{take-append-seam}
 use borrow.Author.Tests.{eq-eqb, ne-eqb}
-use Rattle.att.specs.Text.{importLeaves, answerOf, Said, Read, accepted, refused, readText, linesIn, names, arcCount, flags, stateRecords, arcRecords, written, stateCount, needed, refusal, answerBy, answerRead, importDef}
+use Rattle.att.specs.Text.{importLeaves, answerOf, Said, Read, accepted, refused, readText, linesIn, names, arcCount, flags, stateRecords}
+use Rattle.att.specs.Text.{written, stateCount, needed, refusal, answerBy, answerRead, importDef}
 use Rattle.att.specs.Survey.{fresh, Surveyed, Filled, Ready, Clear, Planned}
 use Rattle.book.specs.Format.{rightPart}
 use Rattle.book.specs.declared.Written.{Written}
@@ -36,7 +37,8 @@ module _ (s : List ℕ) (first room : ℕ) (v : Survey) (g : Surveyed (readText 
         by-read (refused r p) q = rw (q .reply, q .place)
         by-read (accepted ls) q = absurd (m (q .reply))
 
-    pub planned-good : v .reply ≡ 0 → (k : ℕ) → k ≡ length (fresh (v .known .count)) → a ≡ answerBy (v .arcs) k first room → Planned s first room (record { answer = a; known = v .known })
+    pub planned-good : v .reply ≡ 0 → (k : ℕ) → k ≡ length (fresh (v .known .count)) → a ≡ answerBy (v .arcs) k first room
+        → Planned s first room (record { answer = a; known = v .known })
     planned-good z k f e = by-read (readText s) refl g
       where
         by-read : (t : Read) → readText s ≡ t → Surveyed t v → Planned s first room (record { answer = a; known = v .known })
@@ -113,7 +115,8 @@ module _ (s list : List ℕ) (n part first : ℕ) (o : List ℕ) (k : Clear s li
   pub room-states : 3 * length (fresh n) ≤ length o
   room-states =
       let a = k .enough in
-      let b : length (flags (linesIn (readText s)) (names (linesIn (readText s)))) ≡ length (fresh n) = flags-long _ _ ∙ ap (λ (j : ℕ). length (fresh j)) (sym (k .states)) in
+      let b : length (flags (linesIn (readText s)) (names (linesIn (readText s)))) ≡ length (fresh n) = flags-long _ _
+      ∙ ap (λ (j : ℕ). length (fresh j)) (sym (k .states)) in
       omega arith
 
   pub ready : (out : List ℕ) → Filled out (stateRecords part (fresh n)) o → Ready out s list n part first
@@ -124,9 +127,11 @@ module _ (s list : List ℕ) (n part first : ℕ) (o : List ℕ) (k : Clear s li
         front = rw (← records-length part (fresh n), f .is) (take-append-seam (stateRecords part (fresh n)) _);
       }
 
-  pub whole-filled : (out mid : List ℕ) → Filled mid (stateRecords part (fresh n)) o → Filled out (written part first (linesIn (readText s))) mid → Filled out (written part first (linesIn (readText s))) o
+  pub whole-filled : (out mid : List ℕ) → Filled mid (stateRecords part (fresh n)) o → Filled out (written part first (linesIn (readText s))) mid
+      → Filled out (written part first (linesIn (readText s))) o
   whole-filled out mid p q =
       let a = written-length part first (linesIn (readText s)) in
-      let b : length (flags (linesIn (readText s)) (names (linesIn (readText s)))) ≡ length (fresh n) = flags-long _ _ ∙ ap (λ (j : ℕ). length (fresh j)) (sym (k .states)) in
+      let b : length (flags (linesIn (readText s)) (names (linesIn (readText s)))) ≡ length (fresh n) = flags-long _ _
+      ∙ ap (λ (j : ℕ). length (fresh j)) (sym (k .states)) in
       let d = records-length part (fresh n) in
       filled-trans out _ mid _ o q p (omega arith)

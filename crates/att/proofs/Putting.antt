@@ -1,5 +1,5 @@
 -- How far the second pass has come.
-use Prim.Native.Nat.{ℕ, _+_, _-_, _*_, _≤_, _<_}
+use Prim.Native.Nat.{ℕ, _+_, _*_, _≤_, _<_}
 use mathlib.Core.Path.{_≡_, refl, ap, sym, _∙_, subst}
 use mathlib.Core.List.{List, [], _∷_, _++_, append-assoc, append-nil}
 use mathlib.Core.Bool.{true, false, false≢true}
@@ -52,12 +52,17 @@ module _ (o s list : List ℕ) (n part first : ℕ) (r : Ready o s list n part f
       let w : length (flags [] S) ≡ length (fresh n) = flags-long [] S ∙ ap (λ (k : ℕ). length (fresh k)) (sym (r .clear .states)) in
       let v : length (flags whole S) ≡ length (fresh n) = flags-long whole S ∙ ap (λ (k : ℕ). length (fresh k)) (sym (r .clear .states)) in
       let k = r .clear .enough in
-      let f : front part first S [] ≡ stateRecords part (fresh n) = append-nil _ ∙ ap (stateRecords part) (flags-none S ∙ ap fresh (sym (r .clear .states))) in
+      let f : front part first S [] ≡ stateRecords part (fresh n) = append-nil _
+      ∙ ap (stateRecords part) (flags-none S ∙ ap fresh (sym (r .clear .states))) in
       let l = records-length part (fresh n) in
       record {
         done = [];
         walk = walk-start s;
-        filled = rw f (record { room = omega arith; is = sym (take-append-drop (length (stateRecords part (fresh n))) o) ∙ rw l (ap (λ (t : List ℕ). t ++ drop (3 * length (fresh n)) o) (r .front)) });
+        filled = rw f (record {
+          room = omega arith;
+          is = sym (take-append-drop (length (stateRecords part (fresh n))) o)
+              ∙ rw l (ap (λ (t : List ℕ). t ++ drop (3 * length (fresh n)) o) (r .front));
+        });
         upto = rw (← r .clear .states) (omega arith);
       }
 
@@ -82,7 +87,8 @@ module _ (o s list : List ℕ) (n part first : ℕ) (r : Ready o s list n part f
 
     module _ (x next k : ℕ) (e : lineAt s at ≡ Final x next) (q : k ≡ idx (take n list) x) where
       final-named : In S x
-      final-named = final-in (m .done) whole x (walk-longer s next (m .done ++ (final x ∷ [])) whole (walk-final s at (m .done) x next (m .walk) e) (r .clear .good))
+      final-named = final-in (m .done) whole x (walk-longer s next (m .done ++ (final x ∷ [])) whole (walk-final s at (m .done) x next (m .walk) e)
+          (r .clear .good))
 
       flag-there : k < length (flags (m .done) S)
       flag-there =
@@ -98,20 +104,25 @@ module _ (o s list : List ℕ) (n part first : ℕ) (r : Ready o s list n part f
       pub mid-final : Mid (set out (3 * k + 2) (finalFlags k)) o s part first next used
       mid-final =
           let i = numbered x k q in
-          let f : flags (m .done ++ (final x ∷ [])) S ≡ set (flags (m .done) S) k (finalFlags k) = flags-final (m .done) x S (once-names whole) final-named ∙ rw i in
+          let f : flags (m .done ++ (final x ∷ [])) S ≡ set (flags (m .done) S) k (finalFlags k)
+          = flags-final (m .done) x S (once-names whole) final-named ∙ rw i in
           let g : arcRecords first S (m .done ++ (final x ∷ [])) ≡ arcRecords first S (m .done) = arcs-more first S (m .done) (final x) ∙ append-nil _ in
-          let t = set-record part (flags (m .done) S) (arcRecords first S (m .done) ++ drop (length (front part first S (m .done))) o) k (finalFlags k) flag-there in
-          let y : front part first S (m .done ++ (final x ∷ [])) ≡ stateRecords part (set (flags (m .done) S) k (finalFlags k)) ++ arcRecords first S (m .done) = rw (f, g) in
+          let t = set-record part (flags (m .done) S) (arcRecords first S (m .done) ++ drop (length (front part first S (m .done))) o) k
+          (finalFlags k) flag-there in
+          let y : front part first S (m .done ++ (final x ∷ [])) ≡ stateRecords part (set (flags (m .done) S) k (finalFlags k)) ++ arcRecords first S
+          (m .done) = rw (f, g) in
           let c = arcs-snoc (m .done) (final x) in
           let u = m .upto in
-          let v : length (front part first S (m .done ++ (final x ∷ []))) ≡ length (front part first S (m .done)) = front-long part first S _ ∙ rw (front-long part first S (m .done)) (omega arith) in
+          let v : length (front part first S (m .done ++ (final x ∷ []))) ≡ length (front part first S (m .done)) = front-long part first S _
+          ∙ rw (front-long part first S (m .done)) (omega arith) in
           record {
             done = m .done ++ (final x ∷ []);
             walk = walk-final s at (m .done) x next (m .walk) e;
             filled = record {
               room = let z = m .filled .room in omega arith;
               is =
-                  ap (λ (l : List ℕ). set l (3 * k + 2) (finalFlags k)) (m .filled .is ∙ append-assoc (stateRecords part (flags (m .done) S)) (arcRecords first S (m .done)) _)
+                  ap (λ (l : List ℕ). set l (3 * k + 2) (finalFlags k)) (m .filled .is
+                  ∙ append-assoc (stateRecords part (flags (m .done) S)) (arcRecords first S (m .done)) _)
                   ∙ t
                   ∙ sym (append-assoc (stateRecords part (set (flags (m .done) S) k (finalFlags k))) (arcRecords first S (m .done)) _)
                   ∙ rw (v, y);
@@ -140,7 +151,8 @@ module _ (o s list : List ℕ) (n part first : ℕ) (r : Ready o s list n part f
           let v = mid-long in
           omega arith
 
-      pub mid-arc : (p q : ℕ) → p ≡ idx (take n list) x → q ≡ idx (take n list) y → (l : List ℕ) → l ≡ put out used (3 ∷ (first + p) ∷ a ∷ a ∷ (first + q) ∷ []) → Mid l o s part first next (used + 5)
+      pub mid-arc : (p q : ℕ) → p ≡ idx (take n list) x → q ≡ idx (take n list) y → (l : List ℕ)
+          → l ≡ put out used (3 ∷ (first + p) ∷ a ∷ a ∷ (first + q) ∷ []) → Mid l o s part first next (used + 5)
       unfolding put
       mid-arc p q hp hq left is =
           let i = numbered x p hp in
@@ -151,11 +163,13 @@ module _ (o s list : List ℕ) (n part first : ℕ) (r : Ready o s list n part f
           let z = arc-place in
           let w = mid-long in
           let f : front part first S (m .done ++ (arc x y a ∷ [])) ≡ front part first S (m .done) ++ (3 ∷ (first + p) ∷ a ∷ a ∷ (first + q) ∷ [])
-          = rw (flags-arc (m .done) x y a S, arcs-more first S (m .done) (arc x y a), i, j) (sym (append-assoc (stateRecords part (flags (m .done) S)) (arcRecords first S (m .done)) _)) in
+          = rw (flags-arc (m .done) x y a S, arcs-more first S (m .done) (arc x y a), i, j)
+          (sym (append-assoc (stateRecords part (flags (m .done) S)) (arcRecords first S (m .done)) _)) in
           record {
             done = m .done ++ (arc x y a ∷ []);
             walk = walk-arc s at (m .done) x y a next (m .walk) e;
-            filled = rw (f, is) (fill-put out (front part first S (m .done)) o (3 ∷ (first + p) ∷ a ∷ a ∷ (first + q) ∷ []) used (m .filled) (omega arith) (omega arith));
+            filled = rw (f, is) (fill-put out (front part first S (m .done)) o (3 ∷ (first + p) ∷ a ∷ a ∷ (first + q) ∷ []) used (m .filled)
+                (omega arith) (omega arith));
             upto = omega arith;
           }
 

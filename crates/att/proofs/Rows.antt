@@ -1,7 +1,7 @@
 -- A line read by its fields' numbers is the line that the definition reads.
 use Prim.Native.Nat.{ℕ, _+_, _-_, _≤_, _<_}
 use mathlib.Core.Path.{_≡_, refl, ap, sym, _∙_}
-use mathlib.Core.List.{List, [], _∷_}
+use mathlib.Core.List.{List}
 use mathlib.Core.Bool.{Bool, true, false, _&&_, not, cond}
 use native.Mathlib.Omega.{arith}
 use native.Mathlib.Decide.{decLt}
@@ -14,7 +14,7 @@ use Rattle.att.specs.Reading.{labels, isState, faulty, finalLine, arcLin
 use Rattle.att.specs.Numbers.{noNumber, capped, readNumber, finalOf, arcOf}
 use Rattle.att.specs.declared.reading.Line.{Line}
 use Rattle.att.specs.declared.reading.Line.the-variants.{Final, Arc, Faulty}
-use Rattle.att.proofs.Parting.{capped-small, capped-big, front-length, front-is, before-short}
+use Rattle.att.proofs.Parting.{capped-small, capped-big, front-length, front-is}
 
 -- a field that is a number or not, of value v
 abbrev read : Bool → ℕ → ℕ
@@ -34,7 +34,8 @@ label-tests v good = by-case (decLt 0 v) (decLt labels v)
     by-case : Dec (0 < v) → Dec (labels < v) → faulty (eqb v 0) 19 (faulty (ltb labels v) 19 good) ≡ faulty (not (leb 1 v && leb v labels)) 19 good
     by-case (no k) d = let h : v ≡ 0 = omega (arith, k) in rw h
     by-case (yes k) (yes m) = simp (ne-eqb v 0 (omega arith), lt-ltb labels v m, lt-leb v labels m, le-leb 1 v (omega arith))
-    by-case (yes k) (no m) = let h : v ≤ labels = omega (arith, m) in simp (ne-eqb v 0 (omega arith), le-ltb labels v h, le-leb v labels h, le-leb 1 v (omega arith))
+    by-case (yes k) (no m) = let h : v ≤ labels = omega (arith, m) in simp
+        (ne-eqb v 0 (omega arith), le-ltb labels v h, le-leb v labels h, le-leb 1 v (omega arith))
 
 abbrev labelled : ℕ → (ℕ → Line) → Line
 labelled k rest = faulty (eqb k 65537) 18 (faulty (eqb k 0) 19 (faulty (ltb labels k) 19 (rest k)))
@@ -58,13 +59,14 @@ arc-read l next =
     let v = value (field2 l) in
     let u = isNumber (field3 l) in
     let w = value (field3 l) in
-    state-read (isNumber (field1 l)) (value (field1 l)) (λ (a : ℕ). faulty (ltb 65535 (read t v)) 18 (labelled (read u w) (λ (k : ℕ). Arc a (read t v) (k - 1) next)))
+    state-read (isNumber (field1 l)) (value (field1 l)) (λ (a : ℕ). faulty (ltb 65535 (read t v)) 18
+    (labelled (read u w) (λ (k : ℕ). Arc a (read t v) (k - 1) next)))
     ∙ ap (faulty (not (isState (field1 l))) 18)
     (state-read t v (λ (b : ℕ). labelled (read u w) (λ (k : ℕ). Arc (value (field1 l)) b (k - 1) next))
     ∙ ap (faulty (not (isState (field2 l))) 18) (label-read u w (λ (k : ℕ). Arc (value (field1 l)) v (k - 1) next)))
 
 -- the rest of the text as the code cuts it
-pub rest-of : (s : List ℕ) (at : ℕ) → take (length s - at) (drop at s) ≡ drop at s
+rest-of : (s : List ℕ) (at : ℕ) → take (length s - at) (drop at s) ≡ drop at s
 rest-of s at = let h : length (drop at s) ≤ length s - at = simp length-drop (omega arith) in take-all _ _ h
 
 module _ (s : List ℕ) (at : ℕ) (inside : at < length s) (e : ℕ) (q : e ≡ length (before 10 (take (length s - at) (drop at s)))) where

@@ -1,12 +1,11 @@
 -- Laws of `any`.
-use Prim.Native.Nat.{ℕ, zero, suc, _+_, _-_, _≤_, _<_}
-use mathlib.Core.Path.{_≡_, refl, ap, sym, _∙_, subst}
+use Prim.Native.Nat.{ℕ, zero, suc, _+_, _≤_, _<_}
+use mathlib.Core.Path.{_≡_, refl, ap, sym, _∙_}
 use mathlib.Core.List.{List, [], _∷_, _++_}
 use mathlib.Core.Bool.{Bool, true, false, _&&_, _||_}
 use mathlib.Core.Bool as B
 use native.Mathlib.Omega.{arith}
-use native.Mathlib.Decide.{decLt, ℕ-discrete}
-use lib.ListN.{length}
+use native.Mathlib.Decide.{ℕ-discrete}
 use Rattle.book.specs.Language.{any, upFrom}
 
 or-four : (a b c d : Bool) → ((a || b) || (c || d)) ≡ ((a || c) || (b || d))
@@ -60,8 +59,10 @@ module _ {A C : Type 0} where
       → any (λ (q : C). h q && any (λ (x : A). f x && g x q) xs) qs ≡ any (λ (x : A). f x && any (λ (q : C). h q && g x q) qs) xs
   any-swap h f g [] qs = any-none (λ (q : C). h q && false) (λ q. B.and-false (h q)) qs
   any-swap h f g (x ∷ xs) qs =
-      any-ext (λ (q : C). h q && ((f x && g x q) || any (λ (y : A). f y && g y q) xs)) (λ (q : C). (f x && (h q && g x q)) || (h q && any (λ (y : A). f y && g y q) xs))
-      (λ q. and-or (h q) (f x && g x q) (any (λ (y : A). f y && g y q) xs) ∙ ap (λ (t : Bool). t || (h q && any (λ (y : A). f y && g y q) xs)) (and-swap (h q) (f x) (g x q))) qs
+      any-ext (λ (q : C). h q && ((f x && g x q) || any (λ (y : A). f y && g y q) xs))
+      (λ (q : C). (f x && (h q && g x q)) || (h q && any (λ (y : A). f y && g y q) xs))
+      (λ q. and-or (h q) (f x && g x q) (any (λ (y : A). f y && g y q) xs)
+      ∙ ap (λ (t : Bool). t || (h q && any (λ (y : A). f y && g y q) xs)) (and-swap (h q) (f x) (g x q))) qs
       ∙ any-or (λ (q : C). f x && (h q && g x q)) (λ (q : C). h q && any (λ (y : A). f y && g y q) xs) qs
       ∙ ap (λ (t : Bool). t || any (λ (q : C). h q && any (λ (y : A). f y && g y q) xs) qs) (any-and (f x) (λ (q : C). h q && g x q) qs)
       ∙ ap (λ (t : Bool). (f x && any (λ (q : C). h q && g x q) qs) || t) (any-swap h f g xs qs)

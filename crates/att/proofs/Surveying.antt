@@ -25,7 +25,7 @@ unfolding arcCount
 arcs-snoc [] l = omega arith
 arcs-snoc (m ∷ ls) l = let h = arcs-snoc ls l in omega arith
 
-pub read-line : (n : ℕ) (s : List ℕ) (at : ℕ) (ls : List Said) (l : Line) → lineAt s at ≡ l
+read-line : (n : ℕ) (s : List ℕ) (at : ℕ) (ls : List Said) (l : Line) → lineAt s at ≡ l
     → readFrom (suc n) s at ls ≡ turn l at ls (λ (next : ℕ) (more : List Said). readFrom n s next more)
 unfolding readFrom
 read-line n s at ls l e = rw (readFrom, e)
@@ -103,7 +103,7 @@ pub record Pass (s : List ℕ) (at arcs : ℕ) (known : Known) : Type 0 where
 abbrev none : Known
 none = record { list = replicate 64 0; count = 0 }
 
-pub pass-start : (s : List ℕ) → Pass s 0 0 none
+pass-start : (s : List ℕ) → Pass s 0 0 none
 unfolding names namesFrom arcCount
 pass-start s =
     record {

@@ -1,17 +1,17 @@
 -- Every symbol of an accepted text is a symbol of tapes: "label k means symbol k - 1", and a label above the number of symbols is 19. Assumes nothing.
-use Prim.Native.Nat.{ℕ, zero, suc, _+_, _-_, _≤_, _<_}
-use mathlib.Core.Path.{_≡_, refl, ap, sym, _∙_, subst}
+use Prim.Native.Nat.{ℕ, zero, suc, _+_, _-_, _<_}
+use mathlib.Core.Path.{_≡_, refl, ap, subst}
 use mathlib.Core.List.{List, [], _∷_, _++_}
 use mathlib.Core.Bool.{Bool, true, false, _&&_, _||_, not}
 use native.Mathlib.Omega.{arith}
-use lib.Dec.{eqb, leb, ltb}
+use lib.Dec.{eqb, leb}
 use lib.ListN.{length, drop}
 use borrow.Author.Tests.{leb-true, not-false}
 use Rattle.book.specs.Format.{symbolCount}
 use Rattle.book.proofs.Laws.{and-left, and-right}
 use Rattle.att.specs.Fields.{field1, field2, field3, fieldCount, isNumber, value}
-use Rattle.att.specs.Reading.{labels, isState, isLabel, faulty, finalLine, arcLine, pickLine, lineIn, lineOf, ended, lineAt}
-use Rattle.att.specs.Text.{Said, arc, final, Read, refused, accepted, turn, readFrom, readText, linesIn}
+use Rattle.att.specs.Reading.{labels, isState, isLabel, faulty, finalLine, arcLine, lineIn, ended, lineAt}
+use Rattle.att.specs.Text.{Said, arc, final, Read, accepted, turn, readFrom, readText, linesIn}
 use Rattle.att.specs.declared.reading.Line.{Line}
 use Rattle.att.specs.declared.reading.Line.the-variants.{End, Final, Arc, Faulty}
 use Rattle.att.proofs.Good.{pick-both}
@@ -47,7 +47,8 @@ line-low l t next =
 
 low-line : (s : List ℕ) (at : ℕ) → Low (lineAt s at)
 unfolding lineAt
-low-line s at = pick-both Low (leb (length s) at) _ _ (λ _. tt) (λ _. pick-both Low (ended (drop at s)) _ _ (λ _. line-low _ true _) (λ _. line-low _ false _))
+low-line s at = pick-both Low (leb (length s) at) _ _ (λ _. tt) (λ _. pick-both Low (ended (drop at s)) _ _ (λ _. line-low _ true _)
+    (λ _. line-low _ false _))
 
 -- of all lines
 abbrev pub Symbols : List Said → Type 0
@@ -66,7 +67,8 @@ symbols-arc (arc u v c ∷ ls) x y a l h = (h .0, symbols-arc ls x y a l (h .1))
 symbols-arc (final u ∷ ls) x y a l h = symbols-arc ls x y a l h
 
 symbols-turn : (l : Line) (at : ℕ) (done whole : List Said) (go : ℕ → List Said → Read)
-    → ((next : ℕ) (more : List Said) → Symbols more → go next more ≡ accepted whole → Symbols whole) → Low l → Symbols done → turn l at done go ≡ accepted whole → Symbols whole
+    → ((next : ℕ) (more : List Said) → Symbols more → go next more ≡ accepted whole → Symbols whole) → Low l → Symbols done
+    → turn l at done go ≡ accepted whole → Symbols whole
 symbols-turn End at done whole go f b h e = subst Symbols (ap linesIn e) h
 symbols-turn (Final x next) at done whole go f b h e = f next (done ++ (final x ∷ [])) (symbols-final done x h) e
 symbols-turn (Arc x y a next) at done whole go f b h e = f next (done ++ (arc x y a ∷ [])) (symbols-arc done x y a b h) e
@@ -76,7 +78,8 @@ symbols-from : (n : ℕ) (s : List ℕ) (at : ℕ) (done whole : List Said) → 
 unfolding readFrom
 symbols-from zero s at done whole h e = subst Symbols (ap linesIn e) h
 symbols-from (suc n) s at done whole h e =
-    symbols-turn (lineAt s at) at done whole (λ (next : ℕ) (more : List Said). readFrom n s next more) (λ next more k q. symbols-from n s next more whole k q) (low-line s at) h e
+    symbols-turn (lineAt s at) at done whole (λ (next : ℕ) (more : List Said). readFrom n s next more)
+    (λ next more k q. symbols-from n s next more whole k q) (low-line s at) h e
 
 pub text-symbols : (s : List ℕ) (ls : List Said) → readText s ≡ accepted ls → Symbols ls
 unfolding readText

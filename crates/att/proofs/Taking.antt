@@ -1,15 +1,16 @@
 -- What an accepting answer says of the call: no text is refused with 0, and the bytes written are the text's. Assumes nothing.
 use Prim.Native.Nat.{ℕ, zero, suc, _+_, _≤_, _<_}
 use mathlib.Core.Path.{_≡_, refl, ap, sym, _∙_}
-use mathlib.Core.List.{List, [], _∷_, _++_}
+use mathlib.Core.List.{List, []}
 use native.Mathlib.Omega.{arith}
 use native.Mathlib.Decide.{decLt}
-use lib.ListN.{length, take}
+use lib.ListN.{length}
 use lib.Seq.{take-append-seam}
 use Rattle.book.specs.Format.{mostStates, mostArcs, rightPart}
 use Rattle.book.specs.declared.Written.{Written}
 use Rattle.att.specs.Reading.{lineAt}
-use Rattle.att.specs.Text.{Said, Read, refused, accepted, turn, readFrom, readText, linesIn, arcCount, written, stateCount, needed, answerRead, answerOf, importDef}
+use Rattle.att.specs.Text.{Said, Read, refused, accepted, turn, readFrom, readText, linesIn, arcCount, written, stateCount, needed, answerRead}
+use Rattle.att.specs.Text.{answerOf, importDef}
 use Rattle.att.specs.Placed.{importBytes}
 use Rattle.att.specs.declared.reading.Line.{Line}
 use Rattle.att.specs.declared.reading.Line.the-variants.{End, Final, Arc, Faulty}
@@ -28,7 +29,8 @@ refused-from : (n : ℕ) (s : List ℕ) (at : ℕ) (done : List Said) (r p : ℕ
 unfolding readFrom
 refused-from zero s at done r p e = let z : _≡_ {A = ℕ} 0 1 = cc in let w : ⊥ = omega arith in absurd w
 refused-from (suc n) s at done r p e =
-    refused-turn (lineAt s at) at done (λ (next : ℕ) (more : List Said). readFrom n s next more) r p (λ q. faulty-some s at r q) (λ next more q. refused-from n s next more r p q) e
+    refused-turn (lineAt s at) at done (λ (next : ℕ) (more : List Said). readFrom n s next more) r p (λ q. faulty-some s at r q)
+    (λ next more q. refused-from n s next more r p q) e
 
 pub refused-some : (s : List ℕ) (r p : ℕ) → readText s ≡ refused r p → r ≡ 0 → ⊥
 unfolding readText
@@ -53,7 +55,8 @@ module _ (s : List ℕ) (part first : ℕ) (out : List ℕ) where
       let whole : linesIn (readText s) ≡ ls = ap linesIn i in
       let w = accepting (arcCount ls) (stateCount ls) first (length out) z in
       let a : answer ≡ record { reply = 0; place = 0; length = needed ls }
-      = answer-read s part first (length out) low ∙ ap (answerRead first (length out)) i ∙ answer-good (arcCount ls) (stateCount ls) first (length out) (w .few) (w .low) (w .fits) in
+      = answer-read s part first (length out) low ∙ ap (answerRead first (length out)) i
+      ∙ answer-good (arcCount ls) (stateCount ls) first (length out) (w .few) (w .low) (w .fits) in
       let l : length (written part first ls) ≡ needed ls = written-length part first ls in
       record {
         low = low;

@@ -6,16 +6,16 @@ use mathlib.Core.Bool.{Bool, true, false, _&&_, _||_, cond}
 use mathlib.Core.Bool as B
 use native.Mathlib.Omega.{arith}
 use native.Mathlib.Decide.{decLt, ℕ-discrete}
-use lib.Dec.{eqb, leb, ltb}
+use lib.Dec.{eqb, leb}
 use lib.ListN.{length, getD, List·getD-eq-default}
-use borrow.Author.Tests.{eq-eqb, ne-eqb, le-leb, lt-leb, lt-ltb, le-ltb}
+use borrow.Author.Tests.{eq-eqb, ne-eqb, le-leb, lt-leb, lt-ltb}
 use Rattle.book.specs.Format.{startFlag, acceptFlag}
 use Rattle.book.specs.Reading.{State, Arc, Book}
 use Rattle.book.specs.Language.{any, upFrom, opens, leads, noState, stateOf, flagged, isStart, isAccept, someState, accepts}
 use Rattle.att.specs.Text.{Said, arc, final, idx, add, addLine, namesFrom, names, isFinal, accept, flagsFrom, flags, stateCount}
 use Rattle.att.specs.Words.{through, textFrom, firstState, textWords}
-use Rattle.att.specs.Placed.{mine, leaves, partArc, partArcs, Holds}
-use Rattle.att.proofs.Names.{idx-here, idx-there, idx-le, add-in, add-new, add-longer}
+use Rattle.att.specs.Placed.{mine, leaves, partArcs, Holds}
+use Rattle.att.proofs.Names.{idx-here, idx-there, add-in, add-new}
 use Rattle.att.proofs.Appearing.{In, in-append, in-add, in-keep, in-names}
 use Rattle.att.proofs.Flags.{flags-long, names-few}
 use Rattle.att.proofs.Filling.{fresh-some}
@@ -39,7 +39,8 @@ module _ (arcs : List Arc) (acc : ℕ → Bool) (n : ℕ) (top : (q : ℕ) → n
       none z j (no e) = other j e
 
       by-case : Dec (p < n) → any (λ (q : ℕ). acc q && eqb p q) (upFrom 0 n) ≡ acc p
-      by-case (yes h) = any-one (λ (q : ℕ). acc q && eqb p q) p other 0 n (omega arith) (omega arith) ∙ ap (λ (t : Bool). acc p && t) (eq-eqb p p refl) ∙ B.and-true (acc p)
+      by-case (yes h) = any-one (λ (q : ℕ). acc q && eqb p q) p other 0 n (omega arith) (omega arith) ∙ ap (λ (t : Bool). acc p && t) (eq-eqb p p refl)
+          ∙ B.and-true (acc p)
       by-case (no h) =
           let z : acc p ≡ false = top p (omega (arith, h)) in
           any-none (λ (q : ℕ). acc q && eqb p q) (λ j. none z j (ℕ-discrete j p)) (upFrom 0 n) ∙ sym z
@@ -49,7 +50,8 @@ module _ (arcs : List Arc) (acc : ℕ → Bool) (n : ℕ) (top : (q : ℕ) → n
   ends-is [] p = stop-is p
   ends-is (a ∷ w) p =
       any-swap acc (λ (x : Arc). opens x p a) (λ (x : Arc) (q : ℕ). leads arcs (x .to) w q) arcs (upFrom 0 n)
-      ∙ any-ext (λ (x : Arc). opens x p a && any (λ (q : ℕ). acc q && leads arcs (x .to) w q) (upFrom 0 n)) (λ (x : Arc). opens x p a && ends arcs acc w (x .to))
+      ∙ any-ext (λ (x : Arc). opens x p a && any (λ (q : ℕ). acc q && leads arcs (x .to) w q) (upFrom 0 n))
+      (λ (x : Arc). opens x p a && ends arcs acc w (x .to))
       (λ x. ap (λ (t : Bool). opens x p a && t) (ends-is w (x .to))) arcs
 
 -- numbers of states that are among the names
@@ -88,7 +90,14 @@ Named S (final x ∷ ls) = In S x × Named S ls
 pub named-from : (S : List ℕ) (ls : List Said) → Named (namesFrom S ls) ls
 unfolding namesFrom
 named-from S [] = tt
-named-from S (arc x y a ∷ ls) = ((in-names (add (add S x) y) x ls (in-keep (add S x) x y (in-add S x)), in-names (add (add S x) y) y ls (in-add (add S x) y)), named-from (add (add S x) y) ls)
+named-from S (arc x y a ∷ ls) = (
+  (
+    in-names (add (add S x) y) x ls (in-keep (add S x) x y (in-add S x)),
+    in-names (add (add S x) y) y ls
+        (in-add (add S x) y),
+  ),
+  named-from (add (add S x) y) ls,
+)
 named-from S (final x ∷ ls) = (in-names (add S x) x ls (in-add S x), named-from (add S x) ls)
 
 -- flags
@@ -104,7 +113,8 @@ flag-from start ls (x ∷ S) p h = by-case (ℕ-discrete x p) (λ k. flag-from 0
     none zero = refl
     none (suc i) = refl
 
-    by-case : Dec (x ≡ p) → (In S p → getD (flagsFrom 0 ls S) (idx S p) 0 ≡ lead 0 (idx S p) + accept ls p) → getD (flagsFrom start ls (x ∷ S)) (idx (x ∷ S) p) 0 ≡ lead start (idx (x ∷ S) p) + accept ls p
+    by-case : Dec (x ≡ p) → (In S p → getD (flagsFrom 0 ls S) (idx S p) 0 ≡ lead 0 (idx S p) + accept ls p)
+        → getD (flagsFrom start ls (x ∷ S)) (idx (x ∷ S) p) 0 ≡ lead start (idx (x ∷ S) p) + accept ls p
     by-case (yes e) f = rw (idx-here x p S e) (ap (λ (q : ℕ). start + accept ls q) e)
     by-case (no e) f = let m = idx-there x p S e in rw m (f (omega arith) ∙ ap (λ (i : ℕ). i + accept ls p) (none (idx S p)))
 
@@ -153,11 +163,13 @@ module _ (b : Book) (r k first : ℕ) (ls : List Said) (h : Holds b r k first ls
   own i l = ap₂ (λ (s t : Bool). s && t) (eq-eqb _ r (h .rule i l)) (eq-eqb _ k (h .of i l))
 
   -- a flag of a state of the part
-  has : (s flag : ℕ) → (eqb (stateOf b s .rule) r && (eqb (stateOf b s .part) k && flagged flag (stateOf b s .flags))) ≡ (mine b r k s && flagged flag (stateOf b s .flags))
+  has : (s flag : ℕ) → (eqb (stateOf b s .rule) r && (eqb (stateOf b s .part) k && flagged flag (stateOf b s .flags)))
+      ≡ (mine b r k s && flagged flag (stateOf b s .flags))
   has s flag = sym (B.and-assoc (eqb (stateOf b s .rule) r) (eqb (stateOf b s .part) k) (flagged flag (stateOf b s .flags)))
 
   has-own : (i flag : ℕ) → i < stateCount ls
-      → (eqb (stateOf b (first + i) .rule) r && (eqb (stateOf b (first + i) .part) k && flagged flag (stateOf b (first + i) .flags))) ≡ flagged flag (getD (flags ls S) i 0)
+      → (eqb (stateOf b (first + i) .rule) r && (eqb (stateOf b (first + i) .part) k && flagged flag (stateOf b (first + i) .flags)))
+      ≡ flagged flag (getD (flags ls S) i 0)
   has-own i flag l = has (first + i) flag ∙ ap₂ (λ (s t : Bool). s && t) (own i l) (ap (flagged flag) (h .flag i l))
 
   has-other : (s flag : ℕ) → mine b r k s ≡ false → (eqb (stateOf b s .rule) r && (eqb (stateOf b s .part) k && flagged flag (stateOf b s .flags))) ≡ false
@@ -178,7 +190,8 @@ module _ (b : Book) (r k first : ℕ) (ls : List Said) (h : Holds b r k first ls
   acc = isAccept b r k
 
   -- an arc of another part does not leave this one
-  away : (w : List ℕ) (a p : ℕ) → In S p → (x : Arc) → leaves first (stateCount ls) x ≡ false → (opens x (first + idx S p) a && ends (b .arcs) acc w (x .to)) ≡ false
+  away : (w : List ℕ) (a p : ℕ) → In S p → (x : Arc) → leaves first (stateCount ls) x ≡ false
+      → (opens x (first + idx S p) a && ends (b .arcs) acc w (x .to)) ≡ false
   away w a p m x e = by-case (ℕ-discrete (x .from) (first + idx S p))
     where
       by-case : Dec (x .from ≡ first + idx S p) → (opens x (first + idx S p) a && ends (b .arcs) acc w (x .to)) ≡ false
@@ -194,7 +207,8 @@ module _ (b : Book) (r k first : ℕ) (ls : List Said) (h : Holds b r k first ls
     abbrev F : Arc → Bool
     F x = opens x (first + idx S p) a && ends (b .arcs) acc w (x .to)
 
-    arc-same : (x y c : ℕ) → In S x → In S y → F (record { from = first + idx S x; low = c; high = c; to = first + idx S y }) ≡ through (arc x y c) p a (textFrom ls w)
+    arc-same : (x y c : ℕ) → In S x → In S y → F (record { from = first + idx S x; low = c; high = c; to = first + idx S y })
+        ≡ through (arc x y c) p a (textFrom ls w)
     arc-same x y c u v = rw (eqb-idx first S x p u m, leb-both c a, on y v)
 
     arcs-same : (ms : List Said) → Named S ms → any F (partArcs first S ms) ≡ any (λ (l : Said). through l p a (textFrom ls w)) ms
@@ -284,15 +298,18 @@ module _ (b : Book) (r k first : ℕ) (ls : List Said) (h : Holds b r k first ls
   to-ends : (w : List ℕ) → accepts b r k w ≡ someState b (λ (p : ℕ). isStart b r k p && ends (b .arcs) (isAccept b r k) w p)
   unfolding accepts
   to-ends w =
-      any-ext (λ (p : ℕ). isStart b r k p && someState b (λ (q : ℕ). isAccept b r k q && leads (b .arcs) p w q)) (λ (p : ℕ). isStart b r k p && ends (b .arcs) (isAccept b r k) w p)
-      (λ p. ap (λ (t : Bool). isStart b r k p && t) (ends-is (b .arcs) (isAccept b r k) (length (b .states)) (accept-top b r k first ls h) w p)) (upFrom 0 (length (b .states)))
+      any-ext (λ (p : ℕ). isStart b r k p && someState b (λ (q : ℕ). isAccept b r k q && leads (b .arcs) p w q))
+      (λ (p : ℕ). isStart b r k p && ends (b .arcs) (isAccept b r k) w p)
+      (λ p. ap (λ (t : Bool). isStart b r k p && t) (ends-is (b .arcs) (isAccept b r k) (length (b .states)) (accept-top b r k first ls h) w p))
+      (upFrom 0 (length (b .states)))
 
   from-first : (w : List ℕ) → accepts b r k w ≡ (isStart b r k first && ends (b .arcs) (isAccept b r k) w first)
   from-first w =
       let a = h .room in
       let d = some b r k first ls h in
       to-ends w
-      ∙ any-one (λ (p : ℕ). isStart b r k p && ends (b .arcs) (isAccept b r k) w p) first (λ j n. ap (λ (t : Bool). t && ends (b .arcs) (isAccept b r k) w j) (start-other j n)) 0 (length (b .states)) (omega arith) (omega arith)
+      ∙ any-one (λ (p : ℕ). isStart b r k p && ends (b .arcs) (isAccept b r k) w p) first
+      (λ j n. ap (λ (t : Bool). t && ends (b .arcs) (isAccept b r k) w j) (start-other j n)) 0 (length (b .states)) (omega arith) (omega arith)
 
 words-none : (b : Book) (r k first : ℕ) → Holds b r k first [] → (w : List ℕ) → accepts b r k w ≡ textWords [] w
 unfolding textWords flags names namesFrom flagged
@@ -307,9 +324,11 @@ words-some b r k first l ls h w =
     let n = some b r k first (l ∷ ls) h in
     let e : first ≡ first + idx (names (l ∷ ls)) (firstState l) = omega (arith, p .0) in
     let f : getD (flags (l ∷ ls) (names (l ∷ ls))) 0 0 ≡ 1 + accept (l ∷ ls) (firstState l)
-    = ap (λ (i : ℕ). getD (flags (l ∷ ls) (names (l ∷ ls))) i 0) (sym (p .0)) ∙ flag-at (l ∷ ls) (names (l ∷ ls)) (firstState l) (p .1) ∙ ap (λ (i : ℕ). lead 1 i + accept (l ∷ ls) (firstState l)) (p .0) in
+    = ap (λ (i : ℕ). getD (flags (l ∷ ls) (names (l ∷ ls))) i 0) (sym (p .0)) ∙ flag-at (l ∷ ls) (names (l ∷ ls)) (firstState l) (p .1)
+    ∙ ap (λ (i : ℕ). lead 1 i + accept (l ∷ ls) (firstState l)) (p .0) in
     let q : first ≡ first + 0 = omega arith in
-    let z : isStart b r k first ≡ true = subst (λ (s : ℕ). isStart b r k s ≡ true) (sym q) (has-own b r k first (l ∷ ls) h 0 startFlag n ∙ ap (flagged startFlag) f ∙ start-head (isFinal (l ∷ ls) (firstState l))) in
+    let z : isStart b r k first ≡ true = subst (λ (s : ℕ). isStart b r k s ≡ true) (sym q) (has-own b r k first (l ∷ ls) h 0 startFlag n
+    ∙ ap (flagged startFlag) f ∙ start-head (isFinal (l ∷ ls) (firstState l))) in
     from-first b r k first (l ∷ ls) h w
     ∙ rw z (ap (ends (b .arcs) (isAccept b r k) w) e ∙ text-is b r k first (l ∷ ls) h w (firstState l) (p .1))
 

@@ -5,7 +5,8 @@ use mathlib.Core.Path.{_≡_, refl}
 use Rattle.book.specs.declared.Written.{Written}
 use Rattle.att.specs.Fields.{before, past, count, fieldCount, digits, isNumber, valueFrom, value}
 use Rattle.att.specs.Reading.{finalLine, arcLine, lineIn, lineAt}
-use Rattle.att.specs.Text.{readFrom, readText, idx, add, namesFrom, names, arcCount, isFinal, flags, stateRecords, arcRecords, written, answerBy, answerOf}
+use Rattle.att.specs.Text.{readFrom, readText, idx, add, namesFrom, names, arcCount, isFinal, flags, stateRecords, arcRecords, written}
+use Rattle.att.specs.Text.{answerBy, answerOf}
 use Rattle.att.specs.Text.{importLeaves, importDef}
 
 abbrev row : ℕ → ℕ → ℕ → Written
@@ -91,7 +92,8 @@ unfolding before past count fieldCount digits isNumber valueFrom value finalLine
 answers = refl
 
 -- 2, then any number of 3: from 5 to 9 by label 3, from 9 to itself by label 4, 9 final; as part 1 from state 4 on, in a buffer of seventeen 7s
-pub bytes : importDef (53 ∷ 9 ∷ 57 ∷ 9 ∷ 51 ∷ 10 ∷ 57 ∷ 9 ∷ 57 ∷ 9 ∷ 52 ∷ 10 ∷ 57 ∷ 10 ∷ []) 1 4 (7 ∷ 7 ∷ 7 ∷ 7 ∷ 7 ∷ 7 ∷ 7 ∷ 7 ∷ 7 ∷ 7 ∷ 7 ∷ 7 ∷ 7 ∷ 7 ∷ 7 ∷ 7 ∷ 7 ∷ [])
+pub bytes : importDef (53 ∷ 9 ∷ 57 ∷ 9 ∷ 51 ∷ 10 ∷ 57 ∷ 9 ∷ 57 ∷ 9 ∷ 52 ∷ 10 ∷ 57 ∷ 10 ∷ []) 1 4
+    (7 ∷ 7 ∷ 7 ∷ 7 ∷ 7 ∷ 7 ∷ 7 ∷ 7 ∷ 7 ∷ 7 ∷ 7 ∷ 7 ∷ 7 ∷ 7 ∷ 7 ∷ 7 ∷ 7 ∷ [])
     ≡ importLeaves (row 0 0 16) (2 ∷ 1 ∷ 1 ∷ 2 ∷ 1 ∷ 2 ∷ 3 ∷ 4 ∷ 2 ∷ 2 ∷ 5 ∷ 3 ∷ 5 ∷ 3 ∷ 3 ∷ 5 ∷ 7 ∷ [])
 unfolding before past count fieldCount digits isNumber valueFrom value finalLine arcLine lineIn lineAt readFrom readText idx add namesFrom names arcCount isFinal flags stateRecords arcRecords written answerBy answerOf importDef
 bytes = refl

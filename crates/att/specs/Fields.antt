@@ -1,5 +1,5 @@
 -- Document 02, No. 7: a line "has tab-separated decimal numbers". A line's fields are what stands between its tabs.
-use Prim.Native.Nat.{ℕ, zero, suc, _+_, _-_, _*_}
+use Prim.Native.Nat.{ℕ, _+_, _-_, _*_}
 use mathlib.Core.List.{List, [], _∷_}
 use mathlib.Core.Bool.{Bool, true, false, _&&_, not, cond}
 use lib.ListN.{length}

@@ -13,6 +13,7 @@ pub const MOST_STATE: u32 = 65535;
 
 // What is read of a greater number, however long, and of what is no number.
 pub const TOO_HIGH: u32 = MOST_STATE + 1;
+
 pub const NO_NUMBER: u32 = MOST_STATE + 2;
 
 // How many bytes stand before the first b.

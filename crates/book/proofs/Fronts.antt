@@ -3,24 +3,24 @@
 use Prim.Native.Nat.{ℕ, zero, suc, _+_, _-_, _≤_, _<_}
 use mathlib.Core.Path.{_≡_, refl, sym, ap, ap₂, _∙_}
 use mathlib.Core.List.{List, [], _∷_, _++_}
-use mathlib.Core.Bool.{Bool, _&&_, not, cond}
+use mathlib.Core.Bool.{_&&_}
 use native.Mathlib.Nat.{suc-add}
 use native.Mathlib.Omega.{arith}
 use native.Mathlib.Decide.{decLt}
-use lib.Dec.{leb, ltb, eqb}
-use lib.ListN.{length, take, drop, getD, length-append, length-drop, List·getD-append}
+use lib.Dec.{leb, ltb}
+use lib.ListN.{length, drop, length-append, length-drop, List·getD-append}
 use lib.Seq.{take-append-le, drop-append-le, getD-append-seam}
 use borrow.Author.Tests.{lt-leb, le-ltb, ltb-false}
-use Rattle.book.specs.Format.{mostRules, longestWord, ruleKind, stateKind, arcKind, endKind, endSize, lengthAt, symbolsAt, partAt, flagsAt, fromAt, lowAt, highAt, toAt}
-use Rattle.book.specs.Format.{byte, recordSize, symbolFits, symbolsFit, ruleReply, stateReply, arcReply, endReply, kindReply, recordReply}
-use Rattle.book.specs.Reading.{Book, empty, scanOf, wordAt, withRule, withState, withArc, withRecord, accepted, refused, readFrom, readBook}
+use Rattle.book.specs.Format.{mostRules, longestWord, ruleKind, stateKind, arcKind, endKind, lengthAt, symbolsAt, partAt, flagsAt, fromAt}
+use Rattle.book.specs.Format.{lowAt, highAt, toAt}
+use Rattle.book.specs.Format.{byte, recordSize, symbolFits, symbolsFit, ruleReply, stateReply, arcReply, kindReply, recordReply}
+use Rattle.book.specs.Reading.{Book, empty, scanOf, wordAt, withRule, withRecord, accepted, readFrom, readBook}
 use Rattle.book.specs.Fronts.{closed}
 use Rattle.book.specs.declared.Scan.{Scan}
 use Rattle.book.proofs.Laws.{size-rule, size-state, size-arc}
 use Rattle.book.proofs.Passed.{test-passed, kind-rel, Passed, passed}
 use Rattle.book.proofs.Progress.{read-more, read-out}
 use Rattle.book.proofs.Accepted.{Next, last, more, next, never}
-use Rattle.book.proofs.Sound.{kind-rule}
 
 -- a record that stands in the front
 module _ (front rest : List ℕ) where
@@ -50,7 +50,8 @@ module _ (front rest : List ℕ) where
         rw (byte-front (at + partAt) (omega arith), byte-front (at + flagsAt) (omega arith))
 
     arc-front : (g : Scan) → byte front at ≡ arcKind
-        → arcReply (byte (front ++ rest) (at + fromAt)) (byte (front ++ rest) (at + lowAt)) (byte (front ++ rest) (at + highAt)) (byte (front ++ rest) (at + toAt)) g
+        → arcReply (byte (front ++ rest) (at + fromAt)) (byte (front ++ rest) (at + lowAt)) (byte (front ++ rest) (at + highAt))
+        (byte (front ++ rest) (at + toAt)) g
         ≡ arcReply (byte front (at + fromAt)) (byte front (at + lowAt)) (byte front (at + highAt)) (byte front (at + toAt)) g
     arc-front g k =
         let z = size-arc k in
@@ -71,8 +72,13 @@ module _ (front rest : List ℕ) where
     reply-front g =
         let l = length-append front rest in
         rw same-kind
-        (simp (lt-leb (length (front ++ rest)) at (omega arith), lt-leb (length front) at inside, le-ltb (length (front ++ rest)) (at + recordSize (byte front at)) (omega arith),
-        le-ltb (length front) (at + recordSize (byte front at)) whole, kind-front g))
+        (simp (
+          lt-leb (length (front ++ rest)) at (omega arith),
+          lt-leb (length front) at inside,
+          le-ltb (length (front ++ rest)) (at + recordSize (byte front at)) (omega arith),
+          le-ltb (length front) (at + recordSize (byte front at)) whole,
+          kind-front g,
+        ))
 
     word-front : (g : Scan) → kindReply front at g ≡ 0 → byte front at ≡ ruleKind → wordAt (front ++ rest) at ≡ wordAt front at
     unfolding kindReply ruleReply
@@ -168,9 +174,10 @@ module _ (front rest : List ℕ) where
             records = suc (t .records);
             few = omega arith;
             reads = λ m.
-              ap (λ (f : ℕ). readFrom f (front ++ rest) at c) (suc-add (t .records) m)
-              ∙ read-more (t .records + m) (front ++ rest) at c (reply-front front rest at inside whole (scanOf c) ∙ reply) (λ y. k (kind ∙ sym (same-kind front rest at inside whole) ∙ y))
-              ∙ rw (same-kind front rest at inside whole, record-front front rest at inside whole c (q .kind)) (t .reads m);
+                ap (λ (f : ℕ). readFrom f (front ++ rest) at c) (suc-add (t .records) m)
+                ∙ read-more (t .records + m) (front ++ rest) at c (reply-front front rest at inside whole (scanOf c)
+                ∙ reply) (λ y. k (kind ∙ sym (same-kind front rest at inside whole) ∙ y))
+                ∙ rw (same-kind front rest at inside whole, record-front front rest at inside whole c (q .kind)) (t .reads m);
           }
         where
           positive : (m : ℕ) → (m ≡ 0 → ⊥) → 0 < m

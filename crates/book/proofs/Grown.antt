@@ -34,7 +34,8 @@ grown-record s at b =
     (λ _. record { states = []; arcs = arcAt s at ∷ []; all-states = sym (append-nil (b .states)); all-arcs = refl })
     (grown-none b b refl refl)
 
-grown-next : (n : ℕ) (s : List ℕ) (at : ℕ) (b B : Book) → Next n s at b B → ((at′ : ℕ) (b′ : Book) → readFrom n s at′ b′ ≡ accepted B → Grown b′ B) → Grown b B
+grown-next : (n : ℕ) (s : List ℕ) (at : ℕ) (b B : Book) → Next n s at b B → ((at′ : ℕ) (b′ : Book) → readFrom n s at′ b′ ≡ accepted B → Grown b′ B)
+    → Grown b B
 grown-next n s at b B (last e k l q) ih = grown-none b B (ap (λ (c : Book). c .states) (sym q)) (ap (λ (c : Book). c .arcs) (sym q))
 grown-next n s at b B (more e k h) ih = grown-then b (withRecord s at b) B (grown-record s at b) (ih _ _ h)
 

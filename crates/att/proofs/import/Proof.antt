@@ -1,8 +1,7 @@
 use mathlib.Core.Path.{_∙_, sym}
 use native.Mathlib.Omega.{arith}
 use borrow.Author.Needs.{needs}
-use Rattle.book.specs.Format.{rightPart}
-use Rattle.att.proofs.Answers.{answer-part, answer-read}
+use Rattle.att.proofs.Answers.{answer-read}
 use Rattle.att.proofs.Planning.{import-part, import-refused, import-done, room-states, ready, whole-filled}
 use Rattle.att.proofs.import.Statement.{statement}
 use Rattle.att.proofs.import.Tie as tie

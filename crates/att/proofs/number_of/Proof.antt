@@ -1,7 +1,7 @@
 use Prim.Native.Nat.{_+_, _-_, _≤_}
 use mathlib.Core.Path.{_≡_}
 use native.Mathlib.Omega.{arith}
-use lib.ListN.{length, take, drop}
+use lib.ListN.{take, drop}
 use Rattle.att.specs.Text.{idx}
 use Rattle.att.proofs.Names.{find-start, find-met, find-more, find-end}
 use Rattle.att.proofs.number_of.Statement.{statement}
@@ -41,7 +41,11 @@ loop-less c = omega arith
 
 -- src/lib.rt:250:5
 loop-again : tie.Need-loop-again Inv-loop μ-loop
-loop-again c = let l = c .before .before .before in (omega arith, find-more _ _ _ _ (omega arith) (l .loop .inv .1) (c .before .before .loop-test .taken) (c .if1 .left))
+loop-again c = let l = c .before .before .before in (
+  omega arith,
+  find-more _ _ _ _ (omega arith) (l .loop .inv .1)
+      (c .before .before .loop-test .taken) (c .if1 .left),
+)
 
 -- src/lib.rt:245:1
 returns-2 : tie.Need-returns-2 Inv-loop μ-loop

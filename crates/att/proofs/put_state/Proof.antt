@@ -1,6 +1,5 @@
 use Rattle.att.proofs.Filling.{three}
 use native.Mathlib.Omega.{arith}
-use native.Mathlib.Numerals.{add-one}
 use lib.ListN.{length-set}
 use borrow.Author.Needs.{needs}
 use Rattle.att.proofs.put_state.Statement.{statement}

@@ -1,5 +1,5 @@
-use Prim.Native.Nat.{ℕ, _+_, _*_, _≤_, _-_}
-use mathlib.Core.Path.{_≡_, _∙_, sym, refl, ap}
+use Prim.Native.Nat.{_+_, _*_, _≤_, _-_}
+use mathlib.Core.Path.{_≡_, _∙_, refl, ap}
 use mathlib.Core.List.{_∷_}
 use native.Mathlib.Omega.{arith}
 use lib.ListN.{length, replicate}
@@ -84,7 +84,8 @@ loop-again c =
     let h : 3 ≤ length (a .args .out .now) = omega (arith, fresh-some (a .args .n), a .pre .1) in
     let z = b .before .before .before .before .if1 .left in
     let f = left-first _ _ _ _ (b .before .before .put-state2 .ensures) h in
-    let k : 3 * l .loop .m + 6 ≤ length (b .before .before .put-state2 .last .0) = omega (arith, fresh-length (a .args .n) z, a .pre .1, filled-length _ _ _ f, c .before .before .before .before .loop-test .taken) in
+    let k : 3 * l .loop .m + 6 ≤ length (b .before .before .put-state2 .last .0)
+    = omega (arith, fresh-length (a .args .n) z, a .pre .1, filled-length _ _ _ f, c .before .before .before .before .loop-test .taken) in
     let g = left-more _ _ _ _ _ (c .before .before .put-state3 .ensures) (l .loop .inv .1 .1) k in
     (omega (arith, c .before .before .before .before .loop-test .taken), (filled-length _ _ _ g, g))
 

@@ -1,4 +1,4 @@
-use mathlib.Core.Path.{_≡_, sym, ap, _∙_}
+use mathlib.Core.Path.{sym, ap}
 use lib.ListN.{length}
 use Rattle.att.proofs.Filling.{fresh-zero, fresh-length}
 use Rattle.att.proofs.states_of.Statement.{statement}

@@ -1,4 +1,3 @@
-use mathlib.Core.Path.{_≡_}
 use native.Mathlib.Omega.{arith}
 use Rattle.att.proofs.Names.{entered-many, entered-in, entered-full, entered-new}
 use borrow.Author.Needs.{needs}
@@ -38,7 +37,8 @@ add-more c = search needs
 
 -- src/lib.rt:260:1
 returns-4 : tie.Need-returns-4
-returns-4 c = let h = c .if3 .left in entered-new _ _ (omega arith) _ (c .before .before .number-of .ensures) (omega (arith, c .if3 .left)) (c .before .if2 .left)
+returns-4 c = let h = c .if3 .left in entered-new _ _ (omega arith) _ (c .before .before .number-of .ensures) (omega (arith, c .if3 .left))
+    (c .before .if2 .left)
 
 pub with-state-spec : {M : Type 1} → statement M
 with-state-spec =

@@ -1,5 +1,4 @@
 use native.Mathlib.Omega.{arith}
-use mathlib.Core.Path.{_≡_, _∙_}
 use Rattle.att.proofs.Parting.{before-short, rest-is, rest-none}
 use borrow.Author.Needs.{needs}
 use Rattle.att.proofs.fields.behind.Statement.{statement}

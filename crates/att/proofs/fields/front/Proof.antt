@@ -1,5 +1,3 @@
-use native.Mathlib.Omega.{arith}
-use mathlib.Core.Path.{_≡_, _∙_}
 use Rattle.att.proofs.Parting.{front-length, front-is}
 use borrow.Author.Needs.{needs}
 use Rattle.att.proofs.fields.front.Statement.{statement}

@@ -1,7 +1,6 @@
-use Prim.Native.Nat.{_+_, _-_, _≤_}
-use mathlib.Core.Path.{_≡_}
+use Prim.Native.Nat.{_-_}
 use native.Mathlib.Omega.{arith}
-use lib.ListN.{length, drop}
+use lib.ListN.{length}
 use Rattle.att.proofs.Parting.{Digits, digits-start, digits-more, number-none, number-low, number-high, number-end}
 use Rattle.att.proofs.fields.number.Statement.{statement}
 use Rattle.att.proofs.fields.number.Tie as tie
@@ -49,7 +48,8 @@ loop-less c = omega arith
 
 -- src/lib.rt:77:5
 loop-again : tie.Need-loop-again Inv-loop μ-loop
-loop-again c = let l = c .before .before .before .before in digits-more _ _ _ (l .before .loop .inv) (l .loop-test .taken) (c .before .before .if2 .left) (c .before .if3 .left) _ (c .more .ensures)
+loop-again c = let l = c .before .before .before .before in digits-more _ _ _ (l .before .loop .inv) (l .loop-test .taken)
+    (c .before .before .if2 .left) (c .before .if3 .left) _ (c .more .ensures)
 
 -- src/lib.rt:69:1
 returns-4 : tie.Need-returns-4 Inv-loop μ-loop

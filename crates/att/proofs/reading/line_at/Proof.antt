@@ -1,4 +1,4 @@
-use mathlib.Core.Path.{_≡_, _∙_}
+use mathlib.Core.Path.{_∙_}
 use borrow.Author.Tests.{le-leb}
 use Rattle.att.specs.Reading.{lineAt}
 use Rattle.att.proofs.Rows.{line-length, line-ended, line-cut}
@@ -33,7 +33,8 @@ span-requires c κs = search needs
 
 -- src/lib.rt:174:9
 slice-aggregate-l : tie.Need-slice-aggregate-l
-slice-aggregate-l c = let a = c .before .before .before .before .before .args in line-length (a .text .now) _ (c .before .before .before .if1 .left) _ (c .before .span .ensures)
+slice-aggregate-l c = let a = c .before .before .before .before .before .args in line-length (a .text .now) _ (c .before .before .before .if1 .left) _
+    (c .before .span .ensures)
 
 -- src/lib.rt:176:33
 add-line-in : tie.Need-add-line-in

@@ -1,4 +1,4 @@
-use mathlib.Core.Path.{_≡_, _∙_}
+use mathlib.Core.Path.{_∙_}
 use native.Mathlib.Omega.{arith}
 use borrow.Author.Tests.{not-true, not-false}
 use Rattle.att.proofs.Rows.{line-two, line-four, line-open, line-final, line-arc, line-other}
@@ -25,7 +25,8 @@ returns-2 c = line-four _ _ _ _ (c .before .before .field-count .ensures) (λ e.
 
 -- src/lib.rt:167:9
 returns-3 : tie.Need-returns-3
-returns-3 c = line-open _ _ _ _ (c .before .before .before .field-count .ensures) (λ e. (let z : ⊥ = omega arith in z)) (λ e. (let z : ⊥ = omega arith in z)) (not-true _ (c .if3 .taken))
+returns-3 c = line-open _ _ _ _ (c .before .before .before .field-count .ensures) (λ e. (let z : ⊥ = omega arith in z))
+    (λ e. (let z : ⊥ = omega arith in z)) (not-true _ (c .if3 .taken))
 
 -- src/lib.rt:170:9
 final-line-requires : tie.Need-final-line-requires
@@ -35,7 +36,8 @@ final-line-requires c κs = search needs
 returns-4 : tie.Need-returns-4
 returns-4 c =
     c .final-line .ensures
-    ∙ line-final _ _ _ _ (c .before .before .before .before .before .field-count .ensures) (λ e. (let z : ⊥ = omega arith in z)) (λ e. (let z : ⊥ = omega arith in z)) (not-false _ (c .before .before .if3 .left)) (omega arith)
+    ∙ line-final _ _ _ _ (c .before .before .before .before .before .field-count .ensures) (λ e. (let z : ⊥ = omega arith in z))
+    (λ e. (let z : ⊥ = omega arith in z)) (not-false _ (c .before .before .if3 .left)) (omega arith)
 
 -- src/lib.rt:173:9
 arc-line-requires : tie.Need-arc-line-requires
@@ -45,12 +47,15 @@ arc-line-requires c κs = search needs
 returns-5 : tie.Need-returns-5
 returns-5 c =
     c .arc-line .ensures
-    ∙ line-arc _ _ _ _ (c .before .before .before .before .before .before .field-count .ensures) (λ e. (let z : ⊥ = omega arith in z)) (λ e. (let z : ⊥ = omega arith in z)) (not-false _ (c .before .before .before .if3 .left)) (λ e. (let z : ⊥ = omega arith in z)) (omega arith)
+    ∙ line-arc _ _ _ _ (c .before .before .before .before .before .before .field-count .ensures) (λ e. (let z : ⊥ = omega arith in z))
+    (λ e. (let z : ⊥ = omega arith in z)) (not-false _ (c .before .before .before .if3 .left)) (λ e. (let z : ⊥ = omega arith in z)) (omega arith)
 
 -- src/lib.rt:156:1
 returns-6 : tie.Need-returns-6
 returns-6 c =
-    line-other _ _ _ _ (c .before .before .before .before .before .field-count .ensures) (λ e. (let z : ⊥ = omega arith in z)) (λ e. (let z : ⊥ = omega arith in z)) (not-false _ (c .before .before .if3 .left)) (λ e. (let z : ⊥ = omega arith in z)) (λ e. (let z : ⊥ = omega arith in z))
+    line-other _ _ _ _ (c .before .before .before .before .before .field-count .ensures) (λ e. (let z : ⊥ = omega arith in z))
+    (λ e. (let z : ⊥ = omega arith in z)) (not-false _ (c .before .before .if3 .left)) (λ e. (let z : ⊥ = omega arith in z))
+    (λ e. (let z : ⊥ = omega arith in z))
 
 pub line-in-spec : {M : Type 1} → statement M
 line-in-spec =
