@@ -8,15 +8,15 @@ use Rattle.att.proofs.after_states.Reads as reads
 use Rattle.att.proofs.after_states.Lts as lts
 use Rattle.att.proofs.states_of.Reads as states-of-reads
 
--- src/lib.rt:240:35
+-- src/lib.rt:248:35
 states-of-requires : tie.Need-states-of-requires
 states-of-requires c κs = search needs
 
--- src/lib.rt:240:16
+-- src/lib.rt:248:16
 mul-used : tie.Need-mul-used
 mul-used c = omega (arith, fresh-most 64 _ _ (c .states-of .ensures) (omega arith) (omega (arith, c .before .pre)))
 
--- src/lib.rt:236:1
+-- src/lib.rt:244:1
 returns : tie.Need-returns
 unfolding afterStates
 returns c = rw (c .states-of .ensures)

@@ -5,7 +5,7 @@ use Rattle.att.proofs.begin.Tie as tie
 use Rattle.att.proofs.begin.Reads as reads
 use Rattle.att.proofs.begin.Lts as lts
 
--- src/lib.rt:112:1
+-- src/lib.rt:122:1
 returns : tie.Need-returns
 unfolding begun
 returns c = refl

@@ -12,25 +12,25 @@ use Rattle.att.proofs.put_lines.Reads as put-lines-reads
 use Rattle.att.proofs.put_states.Reads as put-states-reads
 use Rattle.att.proofs.refused.Reads as refused-reads
 
--- src/lib.rt:246:9
+-- src/lib.rt:334:9
 refused-requires : tie.Need-refused-requires
 refused-requires c κs = search needs
 
--- src/lib.rt:246:9
+-- src/lib.rt:334:9
 returns : tie.Need-returns
 returns c = import-part _ _ _ _ _ (omega arith) (c .refused .ensures)
 
--- src/lib.rt:249:9
+-- src/lib.rt:337:9
 plan-of-requires : tie.Need-plan-of-requires
 plan-of-requires c κs = search needs
 
--- src/lib.rt:252:9
+-- src/lib.rt:340:9
 returns-2 : tie.Need-returns-2
 returns-2 c =
     let p = c .before .before .before in
     import-refused _ _ _ _ _ (p .plan-of .ensures .answer ∙ sym (answer-read _ _ _ _ (omega arith))) (c .if2 .taken)
 
--- src/lib.rt:257:5
+-- src/lib.rt:345:5
 put-states-requires : tie.Need-put-states-requires
 put-states-requires c κs =
     let p = c .before .before .before .before .before .before in
@@ -38,7 +38,7 @@ put-states-requires c κs =
     let a = p .before .before .before .before in
     (k .few, room-states _ _ _ (a .args .part) _ (a .args .out .now) k)
 
--- src/lib.rt:258:5
+-- src/lib.rt:346:5
 put-lines-requires : tie.Need-put-lines-requires
 put-lines-requires c κs =
     let e = c .before .before .before .before .before .before .before .before in
@@ -46,11 +46,11 @@ put-lines-requires c κs =
     let k = p .plan-of .ensures .clear (e .if2 .left) in
     ready _ _ _ _ _ _ k _ (c .before .before .before .before .put-states .ensures)
 
--- src/lib.rt:242:1
+-- src/lib.rt:330:1
 same-length : tie.Need-same-length
 same-length c = search needs
 
--- src/lib.rt:242:1
+-- src/lib.rt:330:1
 returns-3 : tie.Need-returns-3
 returns-3 c =
     let e = c .before .before .before .before .before .before .before .before .before .before .before in

@@ -11,23 +11,23 @@ use Rattle.att.proofs.refused.Reads as refused-reads
 use Rattle.att.proofs.states_of.Reads as states-of-reads
 use Rattle.att.proofs.survey_of.Reads as survey-of-reads
 
--- src/lib.rt:231:9
+-- src/lib.rt:319:9
 survey-of-requires : tie.Need-survey-of-requires
 survey-of-requires c κs = search needs
 
--- src/lib.rt:234:13
+-- src/lib.rt:322:13
 refused-requires : tie.Need-refused-requires
 refused-requires c κs = search needs
 
--- src/lib.rt:235:9
+-- src/lib.rt:323:9
 returns : tie.Need-returns
 returns c = planned-refused _ _ _ _ (c .before .before .before .before .survey-of .ensures) _ (c .before .if1 .taken) (c .refused .ensures)
 
--- src/lib.rt:237:33
+-- src/lib.rt:325:33
 states-of-requires : tie.Need-states-of-requires
 states-of-requires c κs = search needs
 
--- src/lib.rt:237:9
+-- src/lib.rt:325:9
 judged-requires : tie.Need-judged-requires
 judged-requires c κs =
     let v = c .before .before .before .before in
@@ -35,7 +35,7 @@ judged-requires c κs =
     let h = survey-room _ (a .args .first) (a .args .room) _ (v .survey-of .ensures) (c .before .if1 .left) in
     (fresh-most 65 _ _ (c .states-of .ensures) (omega arith) h, omega (arith, a))
 
--- src/lib.rt:228:1
+-- src/lib.rt:316:1
 returns-2 : tie.Need-returns-2
 returns-2 c =
     let v = c .before .before .before .before .before in

@@ -33,60 +33,60 @@ module _ (line : Line) (list : List ℕ) (n first used room : ℕ) (h : LineFits
   arc-room : (x y a next : ℕ) → line ≡ Arc x y a next → used + 5 ≤ room
   arc-room x y a next e = known _ e .2
 
--- src/lib.rt:210:21
+-- src/lib.rt:218:21
 enum-known-line : tie.Need-enum-known-line
 enum-known-line c = search needs
 
--- src/lib.rt:211:17
+-- src/lib.rt:219:17
 number-of-requires : tie.Need-number-of-requires
 number-of-requires c κs = search needs
 
--- src/lib.rt:212:55
+-- src/lib.rt:220:55
 final-flags-requires : tie.Need-final-flags-requires
 final-flags-requires c κs = search needs
 
--- src/lib.rt:212:17
+-- src/lib.rt:220:17
 mul-out : tie.Need-mul-out
 mul-out c =
     let l = c .before .before .before in
     let a = l .before .before .before in
     omega (arith, a .pre .few, a .pre .states, final-small _ _ _ _ _ _ (a .pre) _ _ _ (l .line .given .1) (c .before .number-of .ensures))
 
--- src/lib.rt:212:17
+-- src/lib.rt:220:17
 add-out : tie.Need-add-out
 add-out c =
     let l = c .before .before .before in
     let a = l .before .before .before in
     omega (arith, a .pre .few, a .pre .states, final-small _ _ _ _ _ _ (a .pre) _ _ _ (l .line .given .1) (c .before .number-of .ensures))
 
--- src/lib.rt:212:13
+-- src/lib.rt:220:13
 slice-write-out : tie.Need-slice-write-out
 slice-write-out c =
     let l = c .before .before .before in
     let a = l .before .before .before in
     omega (arith, a .pre .few, a .pre .states, final-small _ _ _ _ _ _ (a .pre) _ _ _ (l .line .given .1) (c .before .number-of .ensures))
 
--- src/lib.rt:214:13
+-- src/lib.rt:222:13
 same-length : tie.Need-same-length
 same-length c = search needs
 
--- src/lib.rt:214:13
+-- src/lib.rt:222:13
 returns : tie.Need-returns
 returns c = rw (c .before .before .before .line .given .1, c .final-flags .ensures, c .before .number-of .ensures)
 
--- src/lib.rt:216:19
+-- src/lib.rt:224:19
 enum-known-line-2 : tie.Need-enum-known-line-2
 enum-known-line-2 c = search needs
 
--- src/lib.rt:217:17
+-- src/lib.rt:225:17
 number-of-requires-2 : tie.Need-number-of-requires-2
 number-of-requires-2 c κs = search needs
 
--- src/lib.rt:218:17
+-- src/lib.rt:226:17
 number-of-requires-3 : tie.Need-number-of-requires-3
 number-of-requires-3 c κs = search needs
 
--- src/lib.rt:219:35
+-- src/lib.rt:227:35
 add-put-arc : tie.Need-add-put-arc
 add-put-arc c =
     let l = c .before .before .before .before in
@@ -95,7 +95,7 @@ add-put-arc c =
     let q = target-small _ _ _ _ _ _ (a .pre) _ _ _ _ _ (l .line2 .given .1) (c .before .number-of3 .ensures) in
     omega (arith, a .pre .top, p, q)
 
--- src/lib.rt:219:34
+-- src/lib.rt:227:34
 cast-put-arc : tie.Need-cast-put-arc
 cast-put-arc c =
     let l = c .before .before .before .before in
@@ -104,7 +104,7 @@ cast-put-arc c =
     let q = target-small _ _ _ _ _ _ (a .pre) _ _ _ _ _ (l .line2 .given .1) (c .before .number-of3 .ensures) in
     omega (arith, a .pre .top, p, q)
 
--- src/lib.rt:219:57
+-- src/lib.rt:227:57
 add-put-arc-2 : tie.Need-add-put-arc-2
 add-put-arc-2 c =
     let l = c .before .before .before .before in
@@ -113,7 +113,7 @@ add-put-arc-2 c =
     let q = target-small _ _ _ _ _ _ (a .pre) _ _ _ _ _ (l .line2 .given .1) (c .before .number-of3 .ensures) in
     omega (arith, a .pre .top, p, q)
 
--- src/lib.rt:219:56
+-- src/lib.rt:227:56
 cast-put-arc-2 : tie.Need-cast-put-arc-2
 cast-put-arc-2 c =
     let l = c .before .before .before .before in
@@ -122,44 +122,44 @@ cast-put-arc-2 c =
     let q = target-small _ _ _ _ _ _ (a .pre) _ _ _ _ _ (l .line2 .given .1) (c .before .number-of3 .ensures) in
     omega (arith, a .pre .top, p, q)
 
--- src/lib.rt:219:13
+-- src/lib.rt:227:13
 put-arc-requires : tie.Need-put-arc-requires
 put-arc-requires c κs =
     let l = c .before .before .before .before in
     let a = l .before .before .before in
     arc-room _ _ _ _ _ _ (a .pre) _ _ _ _ (l .line2 .given .1)
 
--- src/lib.rt:220:22
+-- src/lib.rt:228:22
 add-r : tie.Need-add-r
 add-r c =
     let l = c .before .before .before .before .before .before .before .before in
     let a = l .before .before .before in
     omega (arith, a, arc-room _ _ _ _ _ _ (a .pre) _ _ _ _ (l .line2 .given .1))
 
--- src/lib.rt:222:13
+-- src/lib.rt:230:13
 same-length-2 : tie.Need-same-length-2
 same-length-2 c = search needs
 
--- src/lib.rt:222:13
+-- src/lib.rt:230:13
 returns-2 : tie.Need-returns-2
 returns-2 c =
     let p = c .before .before .before in
     let l = p .before .before .before .before .before in
     rw (l .line2 .given .1, p .put-arc .ensures, p .before .before .before .number-of2 .ensures, p .before .before .number-of3 .ensures)
 
--- src/lib.rt:225:13
+-- src/lib.rt:233:13
 enum-told : tie.Need-enum-told
 enum-told c = search needs
 
--- src/lib.rt:226:13
+-- src/lib.rt:234:13
 returns-3 : tie.Need-returns-3
 returns-3 c = rw (c .enum-told .given .1)
 
--- src/lib.rt:229:13
+-- src/lib.rt:237:13
 enum-told-2 : tie.Need-enum-told-2
 enum-told-2 c = search needs
 
--- src/lib.rt:230:13
+-- src/lib.rt:238:13
 returns-4 : tie.Need-returns-4
 returns-4 c = rw (c .enum-told2 .given .1)
 

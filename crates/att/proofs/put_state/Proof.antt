@@ -7,31 +7,31 @@ use Rattle.att.proofs.put_state.Tie as tie
 use Rattle.att.proofs.put_state.Reads as reads
 use Rattle.att.proofs.put_state.Lts as lts
 
--- src/lib.rt:331:5
+-- src/lib.rt:157:5
 slice-write-out : tie.Need-slice-write-out
 slice-write-out c = search needs
 
--- src/lib.rt:332:9
+-- src/lib.rt:158:9
 add-out : tie.Need-add-out
 add-out c = search needs
 
--- src/lib.rt:332:5
+-- src/lib.rt:158:5
 slice-write-out-2 : tie.Need-slice-write-out-2
 slice-write-out-2 c = simp length-set (omega arith)
 
--- src/lib.rt:333:9
+-- src/lib.rt:159:9
 add-out-2 : tie.Need-add-out-2
 add-out-2 c = search needs
 
--- src/lib.rt:333:5
+-- src/lib.rt:159:5
 slice-write-out-3 : tie.Need-slice-write-out-3
 slice-write-out-3 c = simp length-set (omega arith)
 
--- src/lib.rt:327:1
+-- src/lib.rt:153:1
 same-length : tie.Need-same-length
 same-length c = search needs
 
--- src/lib.rt:327:1
+-- src/lib.rt:153:1
 returns : tie.Need-returns
 returns c = let a = c .args in three (a .out .now) (a .at) 2 (a .part) (a .flags)
 

@@ -18,30 +18,30 @@ Inv-loop out₀ part n m₀ out m = (m + 1 ≤ n) × ((length out ≡ length out
 abbrev μ-loop : tie.MeasureT-loop
 μ-loop out₀ part n m₀ out m = n - m
 
--- src/lib.rt:353:9
+-- src/lib.rt:179:9
 put-state-requires : tie.Need-put-state-requires Inv-loop μ-loop
 put-state-requires c κs =
     let a = c .before .before .before in
     omega (arith, fresh-some (a .args .n), a .pre .1)
 
--- src/lib.rt:354:9
+-- src/lib.rt:180:9
 same-length : tie.Need-same-length Inv-loop μ-loop
 same-length c = ap length (c .before .before .put-state .ensures) ∙ put-long _ _ _
 
--- src/lib.rt:354:9
+-- src/lib.rt:180:9
 returns : tie.Need-returns Inv-loop μ-loop
 returns c =
     let a = c .before .before .before .before .before .before in
     let h : 3 ≤ length (a .args .out .now) = omega (arith, fresh-some (a .args .n), a .pre .1) in
     left-none _ _ _ _ (c .before .before .put-state .ensures) (c .before .before .before .before .if1 .taken) h
 
--- src/lib.rt:356:5
+-- src/lib.rt:182:5
 put-state-requires-2 : tie.Need-put-state-requires-2 Inv-loop μ-loop
 put-state-requires-2 c κs =
     let a = c .before .before .before in
     omega (arith, fresh-some (a .args .n), a .pre .1)
 
--- src/lib.rt:358:5
+-- src/lib.rt:184:5
 loop-holds : tie.Need-loop-holds Inv-loop μ-loop
 loop-holds c =
     let a = c .before .before .before .before .before .before in
@@ -49,19 +49,19 @@ loop-holds c =
     let z = c .before .before .before .before .if1 .left in
     (omega (arith, z), (refl, filled-self _ _ _ (left-first _ _ _ _ (c .before .before .put-state2 .ensures) h)))
 
--- src/lib.rt:358:11
+-- src/lib.rt:184:11
 add-loop : tie.Need-add-loop Inv-loop μ-loop
 add-loop c = omega arith
 
--- src/lib.rt:359:9
+-- src/lib.rt:185:9
 add-m : tie.Need-add-m Inv-loop μ-loop
 add-m c = omega arith
 
--- src/lib.rt:360:24
+-- src/lib.rt:186:24
 mul-put-state : tie.Need-mul-put-state Inv-loop μ-loop
 mul-put-state c = omega arith
 
--- src/lib.rt:360:9
+-- src/lib.rt:186:9
 put-state-requires-3 : tie.Need-put-state-requires-3 Inv-loop μ-loop
 put-state-requires-3 c κs =
     let b = c .before .before .before in
@@ -71,11 +71,11 @@ put-state-requires-3 c κs =
     let f = left-first _ _ _ _ (b .before .before .put-state2 .ensures) h in
     omega (arith, fresh-length (a .args .n) z, a .pre .1, filled-length _ _ _ f, c .before .before .loop .inv .1 .0, c .before .loop-test .taken)
 
--- src/lib.rt:358:5
+-- src/lib.rt:184:5
 loop-less : tie.Need-loop-less Inv-loop μ-loop
 loop-less c = omega arith
 
--- src/lib.rt:358:5
+-- src/lib.rt:184:5
 loop-again : tie.Need-loop-again Inv-loop μ-loop
 loop-again c =
     let l = c .before .before .before .before .before in
@@ -89,7 +89,7 @@ loop-again c =
     let g = left-more _ _ _ _ _ (c .before .before .put-state3 .ensures) (l .loop .inv .1 .1) k in
     (omega (arith, c .before .before .before .before .loop-test .taken), (filled-length _ _ _ g, g))
 
--- src/lib.rt:348:1
+-- src/lib.rt:174:1
 same-length-2 : tie.Need-same-length-2 Inv-loop μ-loop
 same-length-2 c =
     let l = c .before in
@@ -99,7 +99,7 @@ same-length-2 c =
     let f = left-first _ _ _ _ (b .before .before .put-state2 .ensures) h in
     filled-length _ _ _ (l .loop .inv .1 .1) ∙ filled-length _ _ _ f
 
--- src/lib.rt:348:1
+-- src/lib.rt:174:1
 returns-2 : tie.Need-returns-2 Inv-loop μ-loop
 returns-2 c =
     let l = c .before in

@@ -6,11 +6,11 @@ use Rattle.att.proofs.states_of.Tie as tie
 use Rattle.att.proofs.states_of.Reads as reads
 use Rattle.att.proofs.states_of.Lts as lts
 
--- src/lib.rt:400:1
+-- src/lib.rt:198:1
 returns : tie.Need-returns
 returns c = sym (ap length (fresh-zero _ (c .if1 .taken)))
 
--- src/lib.rt:400:1
+-- src/lib.rt:198:1
 returns-2 : tie.Need-returns-2
 returns-2 c = sym (fresh-length _ (c .if1 .left))
 

@@ -16,27 +16,27 @@ Inv-loop l n₀ i₀ n i = (i ≤ length l) × ((n ≤ i + 1) × (n + count 9 (d
 abbrev μ-loop : tie.MeasureT-loop
 μ-loop l n₀ i₀ n i = length l - i
 
--- src/lib.rt:59:5
+-- src/fields.rt:58:5
 loop-holds : tie.Need-loop-holds Inv-loop μ-loop
 loop-holds c = (omega arith, (omega arith, count-start _))
 
--- src/lib.rt:60:12
+-- src/fields.rt:59:12
 shared-slice-read-if1 : tie.Need-shared-slice-read-if1 Inv-loop μ-loop
 shared-slice-read-if1 c = omega arith
 
--- src/lib.rt:61:13
+-- src/fields.rt:60:13
 add-n : tie.Need-add-n Inv-loop μ-loop
 add-n c = omega arith
 
--- src/lib.rt:63:9
+-- src/fields.rt:62:9
 add-i : tie.Need-add-i Inv-loop μ-loop
 add-i c = omega arith
 
--- src/lib.rt:59:5
+-- src/fields.rt:58:5
 loop-less : tie.Need-loop-less Inv-loop μ-loop
 loop-less c = omega arith
 
--- src/lib.rt:59:5
+-- src/fields.rt:58:5
 loop-again : tie.Need-loop-again Inv-loop μ-loop
 loop-again c =
     let l = c .before .before .before in
@@ -46,7 +46,7 @@ loop-again c =
     (λ w. (omega arith, (omega arith, count-not _ _ _ (l .loop .inv .1 .1) h (w .0 .left) _ (w .1))))
     (c .if1 .came)
 
--- src/lib.rt:54:1
+-- src/fields.rt:53:1
 returns : tie.Need-returns Inv-loop μ-loop
 returns c = let l = c .before in count-end _ _ _ (l .loop .inv .1 .1) (l .loop .inv .0) (c .loop-test .left)
 

@@ -6,15 +6,15 @@ use Rattle.att.proofs.fields.front.Reads as reads
 use Rattle.att.proofs.fields.front.Lts as lts
 use Rattle.att.proofs.fields.span.Reads as span-reads
 
--- src/lib.rt:38:9
+-- src/fields.rt:37:9
 span-requires : tie.Need-span-requires
 span-requires c κs = search needs
 
--- src/lib.rt:39:5
+-- src/fields.rt:38:5
 slice-aggregate-result : tie.Need-slice-aggregate-result
 slice-aggregate-result c = front-length 9 _ _ (c .before .span .ensures)
 
--- src/lib.rt:35:1
+-- src/fields.rt:34:1
 returns : tie.Need-returns
 returns c = front-is 9 _ _ (c .before .span .ensures)
 

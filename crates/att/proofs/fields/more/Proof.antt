@@ -7,31 +7,31 @@ use Rattle.att.proofs.fields.more.Tie as tie
 use Rattle.att.proofs.fields.more.Reads as reads
 use Rattle.att.proofs.fields.more.Lts as lts
 
--- src/lib.rt:97:9
+-- src/fields.rt:96:9
 returns : tie.Need-returns
 returns c = sym (capped-big _ (omega arith))
 
--- src/lib.rt:99:13
+-- src/fields.rt:98:13
 mul-w : tie.Need-mul-w
 mul-w c = search needs
 
--- src/lib.rt:99:23
+-- src/fields.rt:98:23
 sub-w : tie.Need-sub-w
 sub-w c = search needs
 
--- src/lib.rt:99:22
+-- src/fields.rt:98:22
 cast-w : tie.Need-cast-w
 cast-w c = search needs
 
--- src/lib.rt:99:13
+-- src/fields.rt:98:13
 add-w : tie.Need-add-w
 add-w c = search needs
 
--- src/lib.rt:101:9
+-- src/fields.rt:100:9
 returns-2 : tie.Need-returns-2
 returns-2 c = sym (capped-big _ (omega arith))
 
--- src/lib.rt:92:1
+-- src/fields.rt:91:1
 returns-3 : tie.Need-returns-3
 returns-3 c = sym (capped-small _ (omega arith))
 

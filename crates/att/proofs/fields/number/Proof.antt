@@ -14,44 +14,44 @@ Inv-loop f v₀ i₀ v i = Digits f v i
 abbrev μ-loop : tie.MeasureT-loop
 μ-loop f v₀ i₀ v i = length f - i
 
--- src/lib.rt:73:9
+-- src/fields.rt:72:9
 returns : tie.Need-returns Inv-loop μ-loop
 returns c = number-none _ (c .if1 .taken)
 
--- src/lib.rt:77:5
+-- src/fields.rt:76:5
 loop-holds : tie.Need-loop-holds Inv-loop μ-loop
 loop-holds c = digits-start _ (c .if1 .left)
 
--- src/lib.rt:78:17
+-- src/fields.rt:77:17
 shared-slice-read-d : tie.Need-shared-slice-read-d Inv-loop μ-loop
 shared-slice-read-d c = omega arith
 
--- src/lib.rt:80:13
+-- src/fields.rt:79:13
 returns-2 : tie.Need-returns-2 Inv-loop μ-loop
 returns-2 c = let l = c .before .before in number-low _ _ _ (l .before .loop .inv) (l .loop-test .taken) (c .if2 .taken)
 
--- src/lib.rt:83:13
+-- src/fields.rt:82:13
 returns-3 : tie.Need-returns-3 Inv-loop μ-loop
 returns-3 c = let l = c .before .before .before in number-high _ _ _ (l .before .loop .inv) (l .loop-test .taken) (c .if3 .taken)
 
--- src/lib.rt:85:9
+-- src/fields.rt:84:9
 more-requires : tie.Need-more-requires Inv-loop μ-loop
 more-requires c κs = omega arith
 
--- src/lib.rt:86:9
+-- src/fields.rt:85:9
 add-i : tie.Need-add-i Inv-loop μ-loop
 add-i c = omega arith
 
--- src/lib.rt:77:5
+-- src/fields.rt:76:5
 loop-less : tie.Need-loop-less Inv-loop μ-loop
 loop-less c = omega arith
 
--- src/lib.rt:77:5
+-- src/fields.rt:76:5
 loop-again : tie.Need-loop-again Inv-loop μ-loop
 loop-again c = let l = c .before .before .before .before in digits-more _ _ _ (l .before .loop .inv) (l .loop-test .taken)
     (c .before .before .if2 .left) (c .before .if3 .left) _ (c .more .ensures)
 
--- src/lib.rt:69:1
+-- src/fields.rt:68:1
 returns-4 : tie.Need-returns-4 Inv-loop μ-loop
 returns-4 c = number-end _ _ _ (c .before .loop .inv) (c .loop-test .left)
 

@@ -15,31 +15,31 @@ Inv-loop s b i₀ i = (i ≤ length s) × (i + length (before b (drop i s)) ≡ 
 abbrev μ-loop : tie.MeasureT-loop
 μ-loop s b i₀ i = length s - i
 
--- src/lib.rt:25:5
+-- src/fields.rt:24:5
 loop-holds : tie.Need-loop-holds Inv-loop μ-loop
 loop-holds c = omega arith
 
--- src/lib.rt:26:12
+-- src/fields.rt:25:12
 shared-slice-read-if1 : tie.Need-shared-slice-read-if1 Inv-loop μ-loop
 shared-slice-read-if1 c = omega arith
 
--- src/lib.rt:27:13
+-- src/fields.rt:26:13
 returns : tie.Need-returns Inv-loop μ-loop
 returns c = let l = c .before .before .before in span-met _ _ _ (l .loop .inv .1) (c .before .before .loop-test .taken) (c .if1 .taken)
 
--- src/lib.rt:29:9
+-- src/fields.rt:28:9
 add-i : tie.Need-add-i Inv-loop μ-loop
 add-i c = omega arith
 
--- src/lib.rt:25:5
+-- src/fields.rt:24:5
 loop-less : tie.Need-loop-less Inv-loop μ-loop
 loop-less c = omega arith
 
--- src/lib.rt:25:5
+-- src/fields.rt:24:5
 loop-again : tie.Need-loop-again Inv-loop μ-loop
 loop-again c = let l = c .before .before .before in (omega arith, span-more _ _ _ (l .loop .inv .1) (c .before .before .loop-test .taken) (c .if1 .left))
 
--- src/lib.rt:21:1
+-- src/fields.rt:20:1
 returns-2 : tie.Need-returns-2 Inv-loop μ-loop
 returns-2 c = let l = c .before in span-end _ _ _ (l .loop .inv .1) (l .loop .inv .0) (c .loop-test .left)
 

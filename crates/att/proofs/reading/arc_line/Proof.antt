@@ -10,43 +10,43 @@ use Rattle.att.proofs.fields.behind.Reads as behind-reads
 use Rattle.att.proofs.fields.front.Reads as front-reads
 use Rattle.att.proofs.fields.number.Reads as number-reads
 
--- src/lib.rt:147:9
+-- src/reading.rt:74:9
 behind-requires : tie.Need-behind-requires
 behind-requires c κs = search needs
 
--- src/lib.rt:148:9
+-- src/reading.rt:75:9
 behind-requires-2 : tie.Need-behind-requires-2
 behind-requires-2 c κs = search needs
 
--- src/lib.rt:149:20
+-- src/reading.rt:76:20
 front-requires : tie.Need-front-requires
 front-requires c κs = search needs
 
--- src/lib.rt:149:9
+-- src/reading.rt:76:9
 number-requires : tie.Need-number-requires
 number-requires c κs = search needs
 
--- src/lib.rt:150:20
+-- src/reading.rt:77:20
 front-requires-2 : tie.Need-front-requires-2
 front-requires-2 c κs = search needs
 
--- src/lib.rt:150:9
+-- src/reading.rt:77:9
 number-requires-2 : tie.Need-number-requires-2
 number-requires-2 c κs = search needs
 
--- src/lib.rt:151:20
+-- src/reading.rt:78:20
 front-requires-3 : tie.Need-front-requires-3
 front-requires-3 c κs = search needs
 
--- src/lib.rt:151:9
+-- src/reading.rt:78:9
 number-requires-3 : tie.Need-number-requires-3
 number-requires-3 c κs = search needs
 
--- src/lib.rt:152:5
+-- src/reading.rt:79:5
 arc-of-requires : tie.Need-arc-of-requires
 arc-of-requires c κs = search needs
 
--- src/lib.rt:144:1
+-- src/reading.rt:71:1
 returns : tie.Need-returns
 returns c =
     let n3 = c .before in

@@ -9,19 +9,19 @@ use Rattle.att.proofs.reading.final_of.Reads as final-of-reads
 use Rattle.att.proofs.fields.front.Reads as front-reads
 use Rattle.att.proofs.fields.number.Reads as number-reads
 
--- src/lib.rt:141:21
+-- src/reading.rt:68:21
 front-requires : tie.Need-front-requires
 front-requires c κs = search needs
 
--- src/lib.rt:141:14
+-- src/reading.rt:68:14
 number-requires : tie.Need-number-requires
 number-requires c κs = search needs
 
--- src/lib.rt:141:5
+-- src/reading.rt:68:5
 final-of-requires : tie.Need-final-of-requires
 final-of-requires c κs = search needs
 
--- src/lib.rt:138:1
+-- src/reading.rt:65:1
 returns : tie.Need-returns
 returns c = c .final-of .ensures ∙ rw (c .before .number .ensures, c .before .before .front .ensures) (final-read _ _)
 

@@ -6,16 +6,16 @@ use Rattle.att.proofs.reading.final_of.Tie as tie
 use Rattle.att.proofs.reading.final_of.Reads as reads
 use Rattle.att.proofs.reading.final_of.Lts as lts
 
--- src/lib.rt:111:9
+-- src/reading.rt:38:9
 returns : tie.Need-returns
 unfolding finalOf
 returns c = simp (lt-ltb _ _ (c .if1 .taken))
 
--- src/lib.rt:113:17
+-- src/reading.rt:40:17
 cast-t4 : tie.Need-cast-t4
 cast-t4 c = search needs
 
--- src/lib.rt:107:1
+-- src/reading.rt:34:1
 returns-2 : tie.Need-returns-2
 unfolding finalOf
 returns-2 c = simp (le-ltb _ _ (c .if1 .left))

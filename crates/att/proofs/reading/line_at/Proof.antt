@@ -10,55 +10,55 @@ use Rattle.att.proofs.reading.line_at.Lts as lts
 use Rattle.att.proofs.reading.line_in.Reads as line-in-reads
 use Rattle.att.proofs.fields.span.Reads as span-reads
 
--- src/lib.rt:170:9
+-- src/reading.rt:110:9
 returns : tie.Need-returns
 unfolding lineAt
 returns c = simp (le-leb _ _ (c .if1 .taken))
 
--- src/lib.rt:172:16
+-- src/reading.rt:112:16
 sub-rest : tie.Need-sub-rest
 sub-rest c = search needs
 
--- src/lib.rt:172:16
+-- src/reading.rt:112:16
 part-rest-start : tie.Need-part-rest-start
 part-rest-start c = search needs
 
--- src/lib.rt:172:16
+-- src/reading.rt:112:16
 part-rest-end : tie.Need-part-rest-end
 part-rest-end c = search needs
 
--- src/lib.rt:173:9
+-- src/reading.rt:113:9
 span-requires : tie.Need-span-requires
 span-requires c κs = search needs
 
--- src/lib.rt:174:9
+-- src/reading.rt:114:9
 slice-aggregate-l : tie.Need-slice-aggregate-l
 slice-aggregate-l c = let a = c .before .before .before .before .before .args in line-length (a .text .now) _ (c .before .before .before .if1 .left) _
     (c .before .span .ensures)
 
--- src/lib.rt:176:33
+-- src/reading.rt:116:33
 add-line-in : tie.Need-add-line-in
 add-line-in c = search needs
 
--- src/lib.rt:176:33
+-- src/reading.rt:116:33
 add-line-in-2 : tie.Need-add-line-in-2
 add-line-in-2 c = search needs
 
--- src/lib.rt:176:9
+-- src/reading.rt:116:9
 line-in-requires : tie.Need-line-in-requires
 line-in-requires c κs = search needs
 
--- src/lib.rt:176:9
+-- src/reading.rt:116:9
 returns-2 : tie.Need-returns-2
 returns-2 c =
     let l = c .before .before in
     c .line-in .ensures ∙ line-ended _ _ (l .before .before .before .if1 .left) _ (l .before .span .ensures) (c .before .if2 .taken)
 
--- src/lib.rt:178:5
+-- src/reading.rt:118:5
 line-in-requires-2 : tie.Need-line-in-requires-2
 line-in-requires-2 c κs = search needs
 
--- src/lib.rt:166:1
+-- src/reading.rt:106:1
 returns-3 : tie.Need-returns-3
 returns-3 c =
     let l = c .before .before in

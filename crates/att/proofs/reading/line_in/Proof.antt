@@ -11,46 +11,46 @@ use Rattle.att.proofs.reading.arc_line.Reads as arc-line-reads
 use Rattle.att.proofs.fields.field_count.Reads as field-count-reads
 use Rattle.att.proofs.reading.final_line.Reads as final-line-reads
 
--- src/lib.rt:159:9
+-- src/reading.rt:86:9
 field-count-requires : tie.Need-field-count-requires
 field-count-requires c κs = search needs
 
--- src/lib.rt:161:9
+-- src/reading.rt:88:9
 returns : tie.Need-returns
 returns c = line-two _ _ _ _ (c .before .field-count .ensures) (omega arith)
 
--- src/lib.rt:164:9
+-- src/reading.rt:91:9
 returns-2 : tie.Need-returns-2
 returns-2 c = line-four _ _ _ _ (c .before .before .field-count .ensures) (λ e. (let z : ⊥ = omega arith in z)) (omega arith)
 
--- src/lib.rt:167:9
+-- src/reading.rt:94:9
 returns-3 : tie.Need-returns-3
 returns-3 c = line-open _ _ _ _ (c .before .before .before .field-count .ensures) (λ e. (let z : ⊥ = omega arith in z))
     (λ e. (let z : ⊥ = omega arith in z)) (not-true _ (c .if3 .taken))
 
--- src/lib.rt:170:9
+-- src/reading.rt:97:9
 final-line-requires : tie.Need-final-line-requires
 final-line-requires c κs = search needs
 
--- src/lib.rt:170:9
+-- src/reading.rt:97:9
 returns-4 : tie.Need-returns-4
 returns-4 c =
     c .final-line .ensures
     ∙ line-final _ _ _ _ (c .before .before .before .before .before .field-count .ensures) (λ e. (let z : ⊥ = omega arith in z))
     (λ e. (let z : ⊥ = omega arith in z)) (not-false _ (c .before .before .if3 .left)) (omega arith)
 
--- src/lib.rt:173:9
+-- src/reading.rt:100:9
 arc-line-requires : tie.Need-arc-line-requires
 arc-line-requires c κs = search needs
 
--- src/lib.rt:173:9
+-- src/reading.rt:100:9
 returns-5 : tie.Need-returns-5
 returns-5 c =
     c .arc-line .ensures
     ∙ line-arc _ _ _ _ (c .before .before .before .before .before .before .field-count .ensures) (λ e. (let z : ⊥ = omega arith in z))
     (λ e. (let z : ⊥ = omega arith in z)) (not-false _ (c .before .before .before .if3 .left)) (λ e. (let z : ⊥ = omega arith in z)) (omega arith)
 
--- src/lib.rt:156:1
+-- src/reading.rt:83:1
 returns-6 : tie.Need-returns-6
 returns-6 c =
     line-other _ _ _ _ (c .before .before .before .before .before .field-count .ensures) (λ e. (let z : ⊥ = omega arith in z))
