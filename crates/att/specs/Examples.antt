@@ -2,12 +2,20 @@
 use Prim.Native.Nat.{ℕ}
 use mathlib.Core.List.{List, [], _∷_, map}
 use mathlib.Core.Path.{_≡_, refl}
+use mathlib.Core.List.{_++_}
+use mathlib.Core.Bool.{true, false}
+use lib.ListN.{replicate}
+use Rattle.book.specs.Format.{recordSize, symbolFits, symbolsFit, ruleReply, stateReply, given, arcReply, endReply, kindReply, recordReply}
+use Rattle.book.specs.Reading.{withRecord, readBook, checkDef, bookOf}
+use Rattle.book.specs.Reading as book
+use Rattle.book.specs.Language.{leads, flagged, isStart, isAccept, accepts}
 use Rattle.book.specs.declared.Written.{Written}
 use Rattle.att.specs.Fields.{before, past, count, fieldCount, digits, isNumber, valueFrom, value}
 use Rattle.att.specs.Reading.{finalLine, arcLine, lineIn, lineAt}
 use Rattle.att.specs.Text.{readFrom, readText, idx, add, namesFrom, names, arcCount, isFinal, flags, stateRecords, arcRecords, written}
 use Rattle.att.specs.Text.{answerBy, answerOf}
 use Rattle.att.specs.Text.{importLeaves, importDef}
+use Rattle.att.specs.Placed.{importBytes}
 
 abbrev row : ℕ → ℕ → ℕ → Written
 row r p n = record { reply = r; place = p; length = n }
@@ -97,3 +105,20 @@ pub bytes : importDef (53 ∷ 9 ∷ 57 ∷ 9 ∷ 51 ∷ 10 ∷ 57 ∷ 9 ∷ 57 �
     ≡ importLeaves (row 0 0 16) (2 ∷ 1 ∷ 1 ∷ 2 ∷ 1 ∷ 2 ∷ 3 ∷ 4 ∷ 2 ∷ 2 ∷ 5 ∷ 3 ∷ 5 ∷ 3 ∷ 3 ∷ 5 ∷ 7 ∷ [])
 unfolding before past count fieldCount digits isNumber valueFrom value finalLine arcLine lineIn lineAt readFrom readText idx add namesFrom names arcCount isFinal flags stateRecords arcRecords written answerBy answerOf importDef
 bytes = refl
+
+-- the README's book: a rule that writes 8, a left part without condition, the focus from the drawing (press, any number of holds, release), a right
+-- part without condition, the end
+abbrev touch : List ℕ
+touch = 48 ∷ 9 ∷ 49 ∷ 9 ∷ 51 ∷ 10 ∷ 49 ∷ 9 ∷ 49 ∷ 9 ∷ 52 ∷ 10 ∷ 49 ∷ 9 ∷ 50 ∷ 9 ∷ 53 ∷ 10 ∷ 50 ∷ 10 ∷ []
+
+abbrev turn : List ℕ
+turn = (1 ∷ 1 ∷ 8 ∷ 0 ∷ 0 ∷ 0 ∷ 0 ∷ 0 ∷ 0 ∷ 0 ∷ 2 ∷ 0 ∷ 3 ∷ []) ++ (importBytes touch 1 1 (replicate 24 0) ++ (2 ∷ 2 ∷ 3 ∷ 4 ∷ []))
+
+pub turn-accepted : checkDef turn ≡ record { reply = 0; place = 0; rules = 1; states = 5; arcs = 3 }
+unfolding before past count fieldCount digits isNumber valueFrom value finalLine arcLine lineIn lineAt readFrom readText idx add namesFrom names arcCount isFinal flags stateRecords arcRecords written answerBy answerOf importDef recordSize symbolFits symbolsFit ruleReply stateReply given arcReply endReply kindReply recordReply withRecord book.readFrom readBook checkDef
+turn-accepted = refl
+
+-- its words, and words that it has not
+pub turn-words : map (accepts (bookOf turn) 0 1) ((2 ∷ 4 ∷ []) ∷ (2 ∷ 3 ∷ 3 ∷ 4 ∷ []) ∷ (2 ∷ 3 ∷ []) ∷ (4 ∷ []) ∷ [] ∷ []) ≡ true ∷ true ∷ false ∷ false ∷ false ∷ []
+unfolding before past count fieldCount digits isNumber valueFrom value finalLine arcLine lineIn lineAt readFrom readText idx add namesFrom names arcCount isFinal flags stateRecords arcRecords written answerBy answerOf importDef recordSize symbolFits symbolsFit ruleReply stateReply given arcReply endReply kindReply recordReply withRecord book.readFrom readBook bookOf leads flagged isStart isAccept accepts
+turn-words = refl
