@@ -29,11 +29,11 @@ module _ (s : List ℕ) (first room : ℕ) (v : Survey) (g : Surveyed (readText 
       by-read (accepted ls) q = q .room
 
   module _ (a : Written) where
-    pub planned-refused : (v .reply ≡ 0 → ⊥) → a ≡ refusal (v .reply) (v .at) → Planned s first room (record { answer = a; known = v .known })
+    pub planned-refused : (v .reply ≡ 0 → ⊥) → a ≡ refusal (v .reply) (v .place) → Planned s first room (record { answer = a; known = v .known })
     planned-refused m e =
         record { answer = e ∙ by-read (readText s) g; clear = λ z. absurd (m (sym (ap reply-of e) ∙ z)); count = λ z. absurd (m (sym (ap reply-of e) ∙ z)) }
       where
-        by-read : (t : Read) → Surveyed t v → refusal (v .reply) (v .at) ≡ answerRead first room t
+        by-read : (t : Read) → Surveyed t v → refusal (v .reply) (v .place) ≡ answerRead first room t
         by-read (refused r p) q = rw (q .reply, q .place)
         by-read (accepted ls) q = absurd (m (q .reply))
 

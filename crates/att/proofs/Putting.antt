@@ -7,7 +7,7 @@ use native.Mathlib.Omega.{arith}
 use lib.ListN.{length, take, drop, set, length-append, take-append-drop}
 use Rattle.att.specs.Reading.{lineAt}
 use Rattle.att.specs.Text.{Said, arc, final, readText, linesIn, idx, names, arcCount, flags, stateRecords, arcRecords, written}
-use Rattle.att.specs.Survey.{fresh, put, Filled, Ready, finalFlags, Listed, LineFits, AfterLine, lineDef, afterStates}
+use Rattle.att.specs.Survey.{placeAfter, fresh, put, Filled, Ready, finalFlags, Listed, LineFits, AfterLine, lineDef, afterStates}
 use Rattle.att.specs.declared.reading.Line.{Line}
 use Rattle.att.specs.declared.Writing.{Writing}
 use Rattle.att.specs.declared.reading.Line.the-variants.{End, Final, Arc, Faulty}
@@ -34,9 +34,9 @@ pub record Mid (out o s : List ℕ) (part first at used : ℕ) : Type 0 where
   pub filled : Filled out (front part first (names (linesIn (readText s))) done) o
   pub upto : used ≡ 3 * length (fresh (length (names (linesIn (readText s))))) + 5 * arcCount done
 
--- how far it has come: on its way, or it is over
-pub record Under (out o s : List ℕ) (part first : ℕ) (w : Writing) : Type 0 where
-  pub mid : w .going ≡ true → Mid out o s part first (w .at) (w .used)
+-- how far it has come with the place at `at`: on its way, or it is over
+pub record Under (out o s : List ℕ) (part first at : ℕ) (w : Writing) : Type 0 where
+  pub mid : w .going ≡ true → Mid out o s part first at (w .used)
   pub over : w .going ≡ false → Filled out (written part first (linesIn (readText s))) o
 
 module _ (o s list : List ℕ) (n part first : ℕ) (r : Ready o s list n part first) where
@@ -173,63 +173,63 @@ module _ (o s list : List ℕ) (n part first : ℕ) (r : Ready o s list n part f
             upto = omega arith;
           }
 
-  pub under-start : Under o o s part first (afterStates n)
+  pub under-start : Under o o s part first 0 (afterStates n)
   unfolding afterStates
   under-start = record { mid = λ e. mid-start _ refl; over = λ e. absurd (false≢true (sym e)) }
 
-  module _ (out : List ℕ) (w : Writing) (u : Under out o s part first w) (g : w .going ≡ true) where
-    here : Mid out o s part first (w .at) (w .used)
+  module _ (out : List ℕ) (at : ℕ) (w : Writing) (u : Under out o s part first at w) (g : w .going ≡ true) where
+    here : Mid out o s part first at (w .used)
     here = u .mid g
 
-    pub under-fits : (line : Line) → line ≡ lineAt s (w .at) → LineFits line list n first (w .used) (length out)
+    pub under-fits : (line : Line) → line ≡ lineAt s at → LineFits line list n first (w .used) (length out)
     under-fits line e = record {
       few = r .clear .few;
       long = r .clear .long;
       top = r .clear .top;
       states =
           let v : length (flags whole S) ≡ length (fresh n) = flags-long whole S ∙ ap (λ (k : ℕ). length (fresh k)) (sym (r .clear .states)) in
-          let l = mid-long out (w .at) (w .used) here in
+          let l = mid-long out at (w .used) here in
           omega (arith, r .clear .enough, fresh-more n);
       listed = by-line line e;
     }
       where
-        by-line : (l : Line) → l ≡ lineAt s (w .at) → Listed l (take n list) n (w .used) (length out)
+        by-line : (l : Line) → l ≡ lineAt s at → Listed l (take n list) n (w .used) (length out)
         by-line End i = tt
-        by-line (Final x next) i = final-small out (w .at) (w .used) here x next _ (sym i) refl
+        by-line (Final x next) i = final-small out at (w .used) here x next _ (sym i) refl
         by-line (Arc x y a next) i = (
-          arc-source out (w .at) (w .used) here x y a next (sym i) _ refl,
-          arc-target out (w .at) (w .used) here x y a next (sym i) _ refl,
-          arc-place out (w .at) (w .used) here x y a next (sym i),
+          arc-source out at (w .used) here x y a next (sym i) _ refl,
+          arc-target out at (w .used) here x y a next (sym i) _ refl,
+          arc-place out at (w .used) here x y a next (sym i),
         )
         by-line (Faulty b) i = tt
 
     -- what a line leaves is further, with less ahead
-    abbrev Further : AfterLine → Type 0
-    Further d = Under (d .out) o s part first (d .writing)
-        × (ahead s (d .writing .going) (d .writing .at) < ahead s (w .going) (w .at))
+    abbrev Further : ℕ → AfterLine → Type 0
+    Further m d = Under (d .out) o s part first m (d .writing) × (ahead s (d .writing .going) m < ahead s (w .going) at)
 
-    pub under-next : (line : Line) → line ≡ lineAt s (w .at) → (d : AfterLine) → d ≡ lineDef line (take n list) first w out → Further d
-    under-next line e d is = subst Further (sym is) (by-line line e)
+    pub under-next : (line : Line) → line ≡ lineAt s at → (d : AfterLine) → d ≡ lineDef line (take n list) first w out
+        → Further (placeAfter line at) d
+    under-next line e d is = subst (Further (placeAfter line at)) (sym is) (by-line line e)
       where
-        by-line : (l : Line) → l ≡ lineAt s (w .at) → Further (lineDef l (take n list) first w out)
+        by-line : (l : Line) → l ≡ lineAt s at → Further (placeAfter l at) (lineDef l (take n list) first w out)
         by-line End i = (
-          record { mid = λ z. absurd (false≢true z); over = λ _. mid-end out (w .at) (w .used) here (sym i) },
+          record { mid = λ z. absurd (false≢true z); over = λ _. mid-end out at (w .used) here (sym i) },
           rw g (omega arith),
         )
         by-line (Final x next) i =
-            let k = final-on s (w .at) x next (sym i) in (
+            let k = final-on s at x next (sym i) in (
               record {
-                mid = λ _. mid-final out (w .at) (w .used) here x next _ (sym i) refl;
+                mid = λ _. mid-final out at (w .used) here x next _ (sym i) refl;
                 over = λ z. absurd (false≢true (sym z ∙ g));
               },
               rw g (omega (arith, k .0, k .1)),
             )
         by-line (Arc x y a next) i =
-            let k = arc-on s (w .at) x y a next (sym i) in (
+            let k = arc-on s at x y a next (sym i) in (
               record {
-                mid = λ _. mid-arc out (w .at) (w .used) here x y a next (sym i) _ _ refl refl _ refl;
+                mid = λ _. mid-arc out at (w .used) here x y a next (sym i) _ _ refl refl _ refl;
                 over = λ z. absurd (false≢true (sym z ∙ g));
               },
               rw g (omega (arith, k .0, k .1)),
             )
-        by-line (Faulty b) i = absurd (mid-faulty out (w .at) (w .used) here b (sym i))
+        by-line (Faulty b) i = absurd (mid-faulty out at (w .used) here b (sym i))

@@ -7,7 +7,7 @@ use native.Mathlib.Omega.{arith}
 use lib.ListN.{length, replicate}
 use Rattle.att.specs.Reading.{lineAt}
 use Rattle.att.specs.Text.{Said, arc, final, refused, accepted, turn, readFrom, readText, addLine, namesFrom, names, arcOne, arcCount}
-use Rattle.att.specs.Survey.{Lists, Onward, Done, Lined, begun, Surveyed}
+use Rattle.att.specs.Survey.{placeAfter, Lists, Onward, Done, Lined, begun, Surveyed}
 use Rattle.att.specs.declared.reading.Line.{Line}
 use Rattle.att.specs.declared.reading.Line.the-variants.{End, Final, Arc, Faulty}
 use Rattle.att.specs.declared.Known.{Known}
@@ -85,6 +85,12 @@ final-on s at x next e = subst (λ (l : Line). Good at (length s) l) e (good-lin
 pub arc-on : (s : List ℕ) (at x y a next : ℕ) → lineAt s at ≡ Arc x y a next → (at < next) × (next ≤ length s)
 arc-on s at x y a next e = subst (λ (l : Line). Good at (length s) l) e (good-line s at)
 
+pub after-within : (s : List ℕ) (n : ℕ) (line : Line) → line ≡ lineAt s n → n ≤ length s → placeAfter line n ≤ length s
+after-within s n End e h = h
+after-within s n (Final x next) e h = final-on s n x next (sym e) .1
+after-within s n (Arc x y a next) e h = arc-on s n x y a next (sym e) .1
+after-within s n (Faulty c) e h = h
+
 pub faulty-some : (s : List ℕ) (at r : ℕ) → lineAt s at ≡ Faulty r → r ≡ 0 → ⊥
 faulty-some s at r e = subst (λ (l : Line). Good at (length s) l) e (good-line s at)
 
@@ -138,39 +144,38 @@ module _ (s : List ℕ) (at arcs : ℕ) (known : Known) (p : Pass s at arcs know
         room = subst (λ (l : Known). l .count ≤ 65) (sym k) (p .room);
       })
 
-  pub pass-refused : (r : ℕ) → lineAt s at ≡ Faulty r → (v : Survey) → v .reply ≡ r → v .at ≡ at → Surveyed (readText s) v
+  pub pass-refused : (r : ℕ) → lineAt s at ≡ Faulty r → (v : Survey) → v .reply ≡ r → v .place ≡ at → Surveyed (readText s) v
   pass-refused r e v f a =
       rw (walk-refused s at (p .done) r (p .walk) e) (record { reply = f; place = a; some = λ z. faulty-some s at r e (sym f ∙ z) })
 
--- how far a survey has come: on its way, or it is over
-pub record Far (s : List ℕ) (v : Survey) : Type 0 where
+-- how far a survey has come with the place at n: on its way, or it is over
+pub record Far (s : List ℕ) (n : ℕ) (v : Survey) : Type 0 where
   pub good : v .going ≡ true → v .reply ≡ 0
-  pub pass : v .going ≡ true → Pass s (v .at) (v .arcs) (v .known)
+  pub pass : v .going ≡ true → Pass s n (v .arcs) (v .known)
   pub over : v .going ≡ false → Surveyed (readText s) v
 
-pub far-start : (s : List ℕ) → Far s begun
+pub far-start : (s : List ℕ) → Far s 0 begun
 unfolding begun
 far-start s = record { good = λ e. refl; pass = λ e. pass-start s; over = λ e. absurd (false≢true (sym e)) }
 
-module _ (s : List ℕ) (v : Survey) (f : Far s v) (g : v .going ≡ true) where
+module _ (s : List ℕ) (n : ℕ) (v : Survey) (f : Far s n v) (g : v .going ≡ true) where
   pub arcs-fit : length s < 2 ^ 63 → v .arcs + 1 < 2 ^ 64
   arcs-fit h = let p = f .pass g in omega (arith, p .count, p .walk .few, p .walk .within)
 
   module _ (r : Survey) where
-    pub far-onward : (l : Said) (next : ℕ) → Onward v r l next → v .at < next → next ≤ length s → Walk s next (f .pass g .done ++ (l ∷ []))
-        → Far s r × (ahead s (r .going) (r .at) < ahead s (v .going) (v .at))
+    far-onward : (l : Said) (next : ℕ) → Onward v r l → n < next → next ≤ length s → Walk s next (f .pass g .done ++ (l ∷ []))
+        → Far s next r × (ahead s (r .going) next < ahead s (v .going) n)
     far-onward l next o h k w = (
       record {
         good = λ e. o .same ∙ f .good g;
-        pass = λ e. subst (λ (n : ℕ). Pass s n (r .arcs) (r .known)) (sym (o .place))
-            (pass-more s (v .at) (v .arcs) (v .known) (f .pass g) l next w (r .arcs) (o .count) (r .known) (o .room) (o .lists));
+        pass = λ e. pass-more s n (v .arcs) (v .known) (f .pass g) l next w (r .arcs) (o .count) (r .known) (o .room) (o .lists);
         over = λ e. absurd (false≢true (sym e ∙ o .more ∙ g));
       },
-      rw (o .more, g, o .place) (omega arith),
+      rw (o .more, g) (omega arith),
     )
 
-    pub far-over : (c : ℕ) → Done v r c → Surveyed (readText s) r → Far s r × (ahead s (r .going) (r .at) < ahead s (v .going) (v .at))
-    far-over c d u = (
+    far-over : (c p : ℕ) → Done v r c p → Surveyed (readText s) r → Far s n r × (ahead s (r .going) n < ahead s (v .going) n)
+    far-over c p d u = (
       record {
         good = λ e. absurd (false≢true (sym (d .shut) ∙ e));
         pass = λ e. absurd (false≢true (sym (d .shut) ∙ e));
@@ -180,13 +185,13 @@ module _ (s : List ℕ) (v : Survey) (f : Far s v) (g : v .going ≡ true) where
     )
 
     -- a line more
-    pub far-next : (line : Line) → line ≡ lineAt s (v .at) → Lined v line r → Far s r × (ahead s (r .going) (r .at) < ahead s (v .going) (v .at))
-    far-next End e d =
-        far-over _ d (pass-end s (v .at) (v .arcs) (v .known) (f .pass g) (sym e) r (d .answer ∙ f .good g) (d .count) (d .states))
+    pub far-next : (line : Line) → line ≡ lineAt s n → Lined v line (placeAfter line n) r
+        → Far s (placeAfter line n) r × (ahead s (r .going) (placeAfter line n) < ahead s (v .going) n)
+    far-next End e d = far-over _ _ d (pass-end s n (v .arcs) (v .known) (f .pass g) (sym e) r (d .answer ∙ f .good g) (d .count) (d .states))
     far-next (Final x next) e o =
-        let k = final-on s (v .at) x next (sym e) in
-        far-onward (final x) next o (k .0) (k .1) (walk-final s (v .at) (f .pass g .done) x next (f .pass g .walk) (sym e))
+        let k = final-on s n x next (sym e) in
+        far-onward (final x) next o (k .0) (k .1) (walk-final s n (f .pass g .done) x next (f .pass g .walk) (sym e))
     far-next (Arc x y a next) e o =
-        let k = arc-on s (v .at) x y a next (sym e) in
-        far-onward (arc x y a) next o (k .0) (k .1) (walk-arc s (v .at) (f .pass g .done) x y a next (f .pass g .walk) (sym e))
-    far-next (Faulty c) e d = far-over c d (pass-refused s (v .at) (v .arcs) (v .known) (f .pass g) c (sym e) r (d .answer) (d .place))
+        let k = arc-on s n x y a next (sym e) in
+        far-onward (arc x y a) next o (k .0) (k .1) (walk-arc s n (f .pass g .done) x y a next (f .pass g .walk) (sym e))
+    far-next (Faulty c) e d = far-over c n d (pass-refused s n (v .arcs) (v .known) (f .pass g) c (sym e) r (d .answer) (d .place))

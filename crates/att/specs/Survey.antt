@@ -11,10 +11,21 @@ use Rattle.att.specs.Text.{Said, arc, final, Read, refused, accepted, re
 use Rattle.att.specs.Text.{add, addLine, names, arcOne, arcCount, stateRecords, arcRecord, needed, answerRead}
 use Rattle.att.specs.declared.reading.Line.{Line}
 use Rattle.att.specs.declared.reading.Line.the-variants.{End, Final, Arc, Faulty}
+use Rattle.att.specs.declared.reading.Lines.{Lines}
 use Rattle.att.specs.declared.Known.{Known}
 use Rattle.att.specs.declared.Survey.{Survey}
 use Rattle.att.specs.declared.Writing.{Writing}
 use Rattle.att.specs.declared.Plan.{Plan}
+
+-- where the reading goes on after a line at `at`: at the next one, or where it is if the line is the last
+abbrev pub placeAfter : Line → ℕ → ℕ
+placeAfter End at = at
+placeAfter (Final x next) at = next
+placeAfter (Arc x y a next) at = next
+placeAfter (Faulty reply) at = at
+
+abbrev pub moved : Lines → ℕ → Lines
+moved lines at = record { text = lines .text; at = at }
 
 -- the first `count` numbers of the list are the states S; a count of one more than there may be stands for more
 pub record Lists (known : Known) (S : List ℕ) : Type 0 where
@@ -27,32 +38,32 @@ pub record Entered (known next : Known) (x : ℕ) : Type 0 where
   pub room : next .count ≤ mostStates + 1
   pub lists : (S : List ℕ) → Lists known S → Lists next (add S x)
 
--- a good line: the pass goes on at the next one
-pub record Onward (v r : Survey) (l : Said) (next : ℕ) : Type 0 where
+-- a good line: the pass goes on
+pub record Onward (v r : Survey) (l : Said) : Type 0 where
   pub more : r .going ≡ v .going
-  pub place : r .at ≡ next
   pub count : r .arcs ≡ v .arcs + arcOne l
   pub same : r .reply ≡ v .reply
   pub room : r .known .count ≤ mostStates + 1
   pub lists : (S : List ℕ) → Lists (v .known) S → Lists (r .known) (addLine S l)
 
--- the end or a faulty line: the pass stays where it is
-pub record Done (v r : Survey) (reply : ℕ) : Type 0 where
+-- the end or a faulty line: it is over
+pub record Done (v r : Survey) (reply p : ℕ) : Type 0 where
   pub shut : r .going ≡ false
   pub answer : r .reply ≡ reply
-  pub place : r .at ≡ v .at
+  pub place : r .place ≡ p
   pub count : r .arcs ≡ v .arcs
   pub states : r .known ≡ v .known
 
-abbrev pub Lined : Survey → Line → Survey → Type 0
-Lined v End r = Done v r (v .reply)
-Lined v (Final x next) r = Onward v r (final x) next
-Lined v (Arc x y a next) r = Onward v r (arc x y a) next
-Lined v (Faulty reply) r = Done v r reply
+-- the first pass after a line; `at` is the place then
+abbrev pub Lined : Survey → Line → ℕ → Survey → Type 0
+Lined v End at r = Done v r (v .reply) (v .place)
+Lined v (Final x next) at r = Onward v r (final x)
+Lined v (Arc x y a next) at r = Onward v r (arc x y a)
+Lined v (Faulty reply) at r = Done v r reply at
 
 -- before the first line
 unfoldable pub begun : Survey
-begun = record { going = true; reply = 0; at = 0; arcs = 0; known = record { list = replicate mostStates 0; count = 0 } }
+begun = record { going = true; reply = 0; place = 0; arcs = 0; known = record { list = replicate mostStates 0; count = 0 } }
 
 pub record SurveyOf (ls : List Said) (v : Survey) : Type 0 where
   pub reply : v .reply ≡ 0
@@ -62,7 +73,7 @@ pub record SurveyOf (ls : List Said) (v : Survey) : Type 0 where
 
 pub record Refusal (r p : ℕ) (v : Survey) : Type 0 where
   pub reply : v .reply ≡ r
-  pub place : v .at ≡ p
+  pub place : v .place ≡ p
   pub some : v .reply ≡ 0 → ⊥
 
 abbrev pub Surveyed : Read → Survey → Type 0
@@ -124,16 +135,15 @@ abbrev pub lineLeaves : Writing → List ℕ → AfterLine
 lineLeaves w o = record { writing = w; out = o }
 
 abbrev pub lineDef : Line → List ℕ → ℕ → Writing → List ℕ → AfterLine
-lineDef End S first w o = lineLeaves (record { going = false; at = w .at; used = w .used }) o
-lineDef (Final x next) S first w o = lineLeaves (record { going = w .going; at = next; used = w .used })
-    (set o (stateSize * idx S x + flagsAt) (finalFlags (idx S x)))
-lineDef (Arc x y a next) S first w o = lineLeaves (record { going = w .going; at = next; used = w .used + arcSize })
+lineDef End S first w o = lineLeaves (record { going = false; used = w .used }) o
+lineDef (Final x next) S first w o = lineLeaves w (set o (stateSize * idx S x + flagsAt) (finalFlags (idx S x)))
+lineDef (Arc x y a next) S first w o = lineLeaves (record { going = w .going; used = w .used + arcSize })
     (put o (w .used) (arcRecord first S (arc x y a)))
-lineDef (Faulty reply) S first w o = lineLeaves (record { going = false; at = w .at; used = w .used }) o
+lineDef (Faulty reply) S first w o = lineLeaves (record { going = false; used = w .used }) o
 
 -- before the first line, n states being written
 unfoldable pub afterStates : ℕ → Writing
-afterStates n = record { going = true; at = 0; used = stateSize * length (fresh n) }
+afterStates n = record { going = true; used = stateSize * length (fresh n) }
 
 pub record Planned (s : List ℕ) (first room : ℕ) (p : Plan) : Type 0 where
   pub answer : p .answer ≡ answerRead first room (readText s)

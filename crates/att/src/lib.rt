@@ -1,7 +1,7 @@
 // IMPORT: a text in the AT&T form of acceptors as one part of a rule.
 use crate::reading::Line;
 use crate::reading::Lines;
-use crate::reading::next;
+use crate::reading::advance;
 use book::Written;
 ghost use mathlib.Core.Path.{_≡_};
 ghost use Prim.Native.Nat.{_+_, _*_, _≤_, _<_, _^_};
@@ -28,10 +28,9 @@ pub struct Known {
 pub struct Survey {
     // Whether there is a line to read.
     pub going: bool,
-    // 0, or that of the first faulty line.
+    // 0, or the reply of the first faulty line, and where that starts.
     pub reply: u8,
-    // Where the next line starts, or the faulty one.
-    pub at: usize,
+    pub place: usize,
     pub arcs: usize,
     pub known: Known,
 }
@@ -40,8 +39,6 @@ pub struct Survey {
 pub struct Writing {
     // Whether there is a line to read.
     pub going: bool,
-    // Where it starts.
-    pub at: usize,
     // How many bytes are written: the states' records, and those of the arcs so far.
     pub used: usize,
 }
@@ -85,10 +82,10 @@ fn with_state(known: Known, x: u16) -> Known
     more
 }
 
-// The survey after a line: it goes on at the next one, or it is over.
-fn survey_line(v: Survey, line: Line) -> Survey
+// The survey after a line; `at` is the place then, which of a faulty line is its own.
+fn survey_line(v: Survey, line: Line, at: usize) -> Survey
     requires { ⌜ (v .arcs + 1 < 2 ^ 64) × (v .known .count ≤ mostStates + 1) ⌝ }
-    ensures { λ r. ⌜ Lined v line r ⌝ }
+    ensures { λ r. ⌜ Lined v line at r ⌝ }
 {
     let mut r = v;
     match line {
@@ -96,23 +93,22 @@ fn survey_line(v: Survey, line: Line) -> Survey
             r.going = false;
             return r;
         }
-        Line::Final(x, next) => {
+        Line::Final(x, _) => {
             let known = with_state(v.known, x);
             r.known = known;
-            r.at = next;
             return r;
         }
-        Line::Arc(x, y, _, next) => {
+        Line::Arc(x, y, _, _) => {
             let known = with_state(v.known, x); // the source first
             let all = with_state(known, y);
             r.known = all;
             r.arcs = v.arcs + 1;
-            r.at = next;
             return r;
         }
         Line::Faulty(reply) => {
             r.going = false;
             r.reply = reply;
+            r.place = at;
             return r;
         }
     }
@@ -129,23 +125,21 @@ fn begin() -> Survey
     Survey {
         going: true,
         reply: 0,
-        at: 0,
+        place: 0,
         arcs: 0,
         known,
     }
 }
 
-// The first pass: the text and the place in it are held together, and every line is asked for in turn. The proof walks it step by step, for it
-// holds a struct with a reference; what is done at a line is decided in `survey_line`.
+// The first pass. Its proof walks it step by step, for it holds a struct with a reference; what is done with a line is decided in `survey_line`.
 fn survey_of(text: &[u8]) -> Survey
     ensures { λ r. ⌜ Surveyed (readText (now (text .entry))) r ⌝ }
 {
     let mut lines = Lines { text, at: 0 };
     let mut survey = begin();
     while survey.going {
-        let line = next(lines);
-        survey = survey_line(survey, line);
-        lines.at = survey.at;
+        let line = advance(&mut lines);
+        survey = survey_line(survey, line, lines.at);
     }
     survey
 }
@@ -202,31 +196,22 @@ fn states_of(n: usize) -> usize
 }
 
 // The second pass after a line: a final state is marked in its record, an arc is written after what is written so far.
-fn put_line(
-    out: &mut [u8],
-    line: Line,
-    list: &[u16; book::STATES],
-    n: usize,
-    first: usize,
-    w: Writing,
-) -> Writing
+fn put_line(out: &mut [u8], line: Line, list: &[u16; book::STATES], n: usize, first: usize, w: Writing) -> Writing
     requires { ⌜ LineFits line (now list) n first (w .used) (length (now out)) ⌝ }
     ensures { λ r. ⌜ lineLeaves r (now (out .exit)) ≡ lineDef line (take n (now (list .entry))) first w (now (out .entry)) ⌝ }
 {
     let mut r = w;
     match line {
-        Line::Final(x, next) => {
+        Line::Final(x, _) => {
             let k = number_of(list, n, x);
             out[book::STATE_SIZE * k + book::FLAGS] = final_flags(k);
-            r.at = next;
             return r;
         }
-        Line::Arc(x, y, a, next) => {
+        Line::Arc(x, y, a, _) => {
             let p = number_of(list, n, x);
             let q = number_of(list, n, y);
             put_arc(out, w.used, (first + p) as u8, a, (first + q) as u8);
             r.used = w.used + book::ARC_SIZE;
-            r.at = next;
             return r;
         }
         Line::End => {
@@ -246,15 +231,10 @@ fn after_states(n: usize) -> Writing
     ensures { λ r. ⌜ r ≡ afterStates n ⌝ }
 {
     let used = book::STATE_SIZE * states_of(n);
-    Writing {
-        going: true,
-        at: 0,
-        used,
-    }
+    Writing { going: true, used }
 }
 
-// The second pass, over the text as the first: accepting states are marked in their records, and arcs are written after the states. It is proved as
-// `survey_of` is.
+// The second pass: accepting states are marked in their records, and arcs are written after the states. It is proved as `survey_of` is.
 fn put_lines(
     out: &mut [u8],
     text: &[u8],
@@ -269,9 +249,8 @@ fn put_lines(
     let mut lines = Lines { text, at: 0 };
     let mut writing = after_states(n);
     while writing.going {
-        let line = next(lines);
+        let line = advance(&mut lines);
         writing = put_line(&mut *out, line, list, n, first, writing);
-        lines.at = writing.at;
     }
 }
 
@@ -319,7 +298,7 @@ fn plan_of(text: &[u8], first: u8, room: usize) -> Plan
     let v = survey_of(text);
     let known = v.known;
     if v.reply != 0 {
-        let answer = refused(v.reply, v.at);
+        let answer = refused(v.reply, v.place);
         return Plan { answer, known };
     }
     let answer = judged(v.arcs, states_of(known.count), first as usize, room);

@@ -9,6 +9,7 @@ use crate::fields::span;
 ghost use mathlib.Core.Path.{_≡_};
 ghost use Rattle.att.specs.Reading.{finalLine, arcLine, lineIn, lineAt};
 ghost use Rattle.att.specs.Numbers.{finalOf, arcOf};
+ghost use Rattle.att.specs.Survey.{placeAfter, moved};
 
 // Ends each line.
 const NEWLINE: u8 = b'\n';
@@ -118,9 +119,24 @@ fn line_at(text: &[u8], at: usize) -> Line
     line_in(l, false, 0)
 }
 
-// The line at the place.
-pub fn next<'a>(lines: Lines<'a>) -> Line
-    ensures { λ r. ⌜ r ≡ lineAt (now (lines .entry .text)) (lines .entry .at) ⌝ }
+// Where the reading goes on after a line: at the next one, or where it is if the line is the last.
+fn place_after(line: Line, at: usize) -> usize
+    ensures { λ r. ⌜ r ≡ placeAfter line at ⌝ }
 {
-    line_at(lines.text, lines.at)
+    match line {
+        Line::Final(_, next) => return next,
+        Line::Arc(_, _, _, next) => return next,
+        Line::End => return at,
+        Line::Faulty(_) => return at,
+    }
+}
+
+// One line more: the line at the place, which moves on.
+pub fn advance<'s, 'a>(lines: &'s mut Lines<'a>) -> Line
+    ensures { λ l. ⌜ (l ≡ lineAt (now (now (lines .entry) .text)) (now (lines .entry) .at))
+        × (now (lines .exit) ≡ moved (now (lines .entry)) (placeAfter l (now (lines .entry) .at))) ⌝ }
+{
+    let line = line_at(lines.text, lines.at);
+    lines.at = place_after(line, lines.at);
+    line
 }

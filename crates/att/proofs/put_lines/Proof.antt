@@ -1,10 +1,11 @@
 -- `att::put_lines` meets its contract: a walk of its code, as that of `survey_of`. The output's borrow is opened once, before the loop, and closed once,
 -- after it; in each turn its bytes are lent to `put_line` for a lifetime that is made for the call, and come back. How far the pass has come is said in
--- Putting.antt. All that is known of `after_states`, `next` and `put_line` is that they meet their contracts. Assumes nothing.
+-- Putting.antt. All that is known of `after_states`, `advance` and `put_line` is that they meet their contracts. Assumes nothing.
 use mathlib.Core.Path.{_≡_, refl, sym, _∙_, ap, subst}
 use mathlib.Core.Bool.{Bool, true, false}
 use mathlib.Core.WellFounded.{WellFounded, InvImage·wf}
-use Prim.Native.Nat.{ℕ, _<_, _^_}
+use Prim.Native.Nat.{ℕ, _≤_, _<_, _^_}
+use native.Mathlib.Omega.{arith}
 use mathlib.Core.List.{List, [], _∷_}
 use lib.ListN.{length, take}
 use lib.WfN.{Nat·lt-wfRel}
@@ -24,16 +25,16 @@ use contract.Monad.{Fun, fact}
 use contract.Running.{givenOf, tables, tablesOf}
 use types.Kit.{Given, Item, ‵, raw, some, later, _⊛_, ⋆, runs, params′, anyQ, atRet, Sq, _$_, _∵_, !, qed, by, move, keep, drop, use1, use2, use3, split}
 use types.Kit.{join, pick, rewrite, fsplit, fjoin, feqL, feqI, suffices, frame, await, done}
-use types.Run.{look, store, init, forget, stop, hop, fld, from, load, addr, lit, unit-lit, of-opd, and-then, no-more, assigns, assigns-last}
-use types.Run.{land, first as in-turn, blocks, stays, leaves-loop, returns, enter, alloc1, alloc0, params1, pass1, pass0}
+use types.Run.{look, store, init, forget, stop, hop, fld, from, load, addr, lit, unit-lit, of-opd, and-then, no-more, assigns}
+use types.Run.{land, land-last, first as in-turn, blocks, stays, leaves-loop, returns, enter, alloc1, alloc0, params1, pass1, pass0}
 use types.Run.{free1, free0, exec, Below, again, loops}
-use types.Part.{agg, whole, sub, look-in, store-in}
+use types.Part.{agg, whole, sub, look-in}
 use types.SemTy.{cells, Arr}
 use types.Tokens.{lft-new, lft-end}
 use sound.WpLaws.{fmOf, WpFn-mono}
 use denote.Exit.{yes}
 use denote.RattleType.{owns}
-use denote.Memory.{mem}
+use denote.Memory.{mem, pointee}
 use denote.Shadow.{pureI}
 use denote.Laws.{Is, shows}
 use denote.Plain.{uint-makes, uint-vals, uint-tells}
@@ -50,18 +51,20 @@ use denote.Struct.Laws as LL
 use denote.Triple.Entry.{Vals, onEntry}
 use denote.Triple.Spec.{Meets, tripleOf}
 use denote.Triple.Statement.{Contract, Triple}
-use denote.Triple.Call.{calls-at}
+use denote.Triple.Call.{calls-at, calls-at-last}
 use denote.Triple.Clauses.{ensured, lasts, Lasts}
 use denote.Triple.Table.{entered, cited}
 use denote.Triple.Walked.{says, needs, Stays, stay-none, stay-none-ref, stay-none-slice, stay-slice, walkOf, AllGo, goes-none, goes-none-ref}
 use denote.Triple.Walked.{goes-none-slice, goes-slice, Walks, ends-at, walked, walk-meets}
 use Rattle.att.specs.Reading.{lineAt}
-use Rattle.att.specs.Survey.{Ready, lineLeaves, lineDef, afterStates}
+use Rattle.att.specs.Survey.{placeAfter, Ready, lineLeaves, lineDef, afterStates}
 use Rattle.att.specs.declared.reading.Line.{Line}
 use Rattle.att.specs.declared.Writing.{Writing}
-use Rattle.att.proofs.Surveying.{ahead}
+use Rattle.att.proofs.Surveying.{after-within, ahead}
 use Rattle.att.proofs.Putting.{Under, under-start, under-fits, under-next}
-use Rattle.att.proofs.Holding.{on-test, Next, made, typed, to-next, goes, said}
+use Rattle.att.proofs.Holding.{on-test, Advance, κs, lent, Last, Aside, toks, Says, made, held, typed, Cell, to, lends, comes}
+use Rattle.att.specs.declared.reading.Lines.{Lines}
+use Rattle.att.proofs.reading.Lines as T
 use Rattle.att.proofs.reading.Lines.Laws as T′
 use Rattle.att.proofs.reading.Line as S
 use Rattle.att.proofs.reading.Line.Laws as S′
@@ -71,10 +74,10 @@ use Rattle.att.proofs.after_states as start-fn
 use Rattle.att.proofs.after_states.Symbol as start-def
 use Rattle.att.proofs.after_states.Symbol.{name as #att·after-states}
 use Rattle.att.proofs.after_states.Met as start-thm
-use Rattle.att.proofs.reading.next as next
-use Rattle.att.proofs.reading.next.Symbol as next-def
-use Rattle.att.proofs.reading.next.Symbol.{name as #att·reading·next}
-use Rattle.att.proofs.reading.next.Met as next-thm
+use Rattle.att.proofs.reading.advance as advance
+use Rattle.att.proofs.reading.advance.Symbol as advance-def
+use Rattle.att.proofs.reading.advance.Symbol.{name as #att·reading·advance}
+use Rattle.att.proofs.reading.advance.Met as advance-thm
 use Rattle.att.proofs.put_line as line-fn
 use Rattle.att.proofs.put_line.Symbol as line-def
 use Rattle.att.proofs.put_line.Symbol.{name as #att·put-line}
@@ -122,6 +125,9 @@ WT = Wr′.mir
 abbrev NT : Ty
 NT = S′.mir
 
+abbrev RT : Ty
+RT = tyRef erased mut (pointee (T.the-row (record { mir = erased; lft = [] }) .written))
+
 abbrev PT : Ty
 PT = tyRef erased mut (tyInt w8)
 
@@ -139,20 +145,18 @@ PutLine 𝓤 H A mem run = tripleOf 𝓤 H A line-fn.signature (line-fn.spec �
 abbrev low : Writing → Val
 low w = LL.val Wr.the-type Wr′.the-laws w
 
--- where a turn begins: the pass, whose machine value is lawful, the bytes, and how far it has come
+-- where a turn begins: the place, the pass, whose machine value is lawful, the bytes, and how far it has come
 record Here (o s : List ℕ) (part first : ℕ) : Type 0 where
+  m : ℕ
+  within : m ≤ length s
   w : Writing
   ok : Is Wr.the-row w (low w ∷ [])
   ys : List ℕ
   same : length ys ≡ length o
-  under : Under ys o s part first w
+  under : Under ys o s part first m w
 
 lawful : (w : Writing) (u : Val) → Is Wr.the-row w (u ∷ []) → Is Wr.the-row w (low w ∷ [])
 lawful w u is = subst (Is Wr.the-row w) (LL.tells Wr.the-type Wr′.the-laws w _ is) is
-
-start-at : (n : ℕ) (w : Writing) → w ≡ afterStates n → w .at ≡ 0
-unfolding afterStates
-start-at n w e = ap (λ (y : Writing). y .at) e
 
 module _ {M : Type 1} (𝓤 : URA M) (H : Heap 𝓤) (A : Atoms 𝓤) (W : Given 𝓤 H A) (at-mem : Memory → SProp 𝓤) (run : Routine → Fun 𝓤)
     (κ₁ κ₂ κ₃ : Lft) (q₁ q₂ q₃ : Share) (b₁ o₁ : ℕ) (γ₁ : GName) (b₂ o₂ : ℕ) (γ₂ : GName) (b₃ o₃ : ℕ) (γ₃ : GName) (o s list : List ℕ) (n part first : ℕ)
@@ -186,10 +190,10 @@ module _ {M : Type 1} (𝓤 : URA M) (H : Heap 𝓤) (A : Atoms 𝓤) (W : Given
   own₃ = ShrRef (named 2) κ₃ (Array u16 64) .own r₃ (v₃ ∷ [])
 
   -- the bytes lent for the lifetime ν
-  abbrev lent : ℕ → GName → List ℕ → ℕ → Fml
-  lent ν δ ys m = MutSlice (named 0) (ν ∷ []) u8 .own (r₁ δ ys) (sliceVal (b₁, o₁) m ∷ [])
+  abbrev bytes : ℕ → GName → List ℕ → ℕ → Fml
+  bytes ν δ ys m = MutSlice (named 0) (ν ∷ []) u8 .own (r₁ δ ys) (sliceVal (b₁, o₁) m ∷ [])
 
-  -- the token of the text's lifetime, as `next` asks for it
+  -- the token of the text's lifetime
   abbrev tok₂ : Item 𝓤
   tok₂ = ‵ (flft κ₂ q₂) ⊛ ‵ ftrue
 
@@ -214,9 +218,12 @@ module _ {M : Type 1} (𝓤 : URA M) (H : Heap 𝓤) (A : Atoms 𝓤) (W : Given
   abbrev the-owns : Fml
   the-owns = owns (MutSlice (named 0) κ₁ u8 ∷ ShrSlice (named 1) κ₂ u8 ∷ ShrRef (named 2) κ₃ (Array u16 64) ∷ usize ∷ u8 ∷ usize ∷ []) args at
 
-  -- the machine value of the struct at a place
-  abbrev held : ℕ → Val
-  held m = T′.lowered (made b₂ o₂ γ₂ s m)
+  place-ok : (m : ℕ) → m ≤ length s → m < 2 ^ 64
+  place-ok m h = omega (arith, g₂ .0)
+
+  -- the struct at a place
+  abbrev lines : ℕ → Lines
+  lines m = made b₂ o₂ γ₂ s m
 
   abbrev Now : Type 0
   Now = Here o s part first
@@ -248,17 +255,17 @@ module _ {M : Type 1} (𝓤 : URA M) (H : Heap 𝓤) (A : Atoms 𝓤) (W : Given
 
   -- the call of `put_line`, at the line l with the machine value u, for the lifetime ν
   module _ (x : Now) (l : Line) (u : Val) (ν : ℕ) (δ : GName) where
-    abbrev κs : Lfts 2
-    κs = (ν ∷ [], (κ₃, tt))
+    abbrev line-κs : Lfts 2
+    line-κs = (ν ∷ [], (κ₃, tt))
 
     abbrev line-args : RefT (List ℕ) × (Line × (RefT (List ℕ) × (ℕ × (ℕ × (Writing × Unit {0})))))
     line-args = (r₁ δ (x .ys), (l, (r₃, (n, (first, (x .w, tt))))))
 
-    abbrev line-vals : Vals line-fn.signature κs
+    abbrev line-vals : Vals line-fn.signature line-κs
     line-vals = (v₁ ∷ [], (u ∷ [], (v₃ ∷ [], (vint w64 n ∷ [], (vint w64 first ∷ [], (low (x .w) ∷ [], tt))))))
 
     abbrev to-line : PutLine 𝓤 H A at-mem run .Ghost
-    to-line = ((κs, (fullShare, (q₃, tt)), tt, line-args, line-vals), tt)
+    to-line = ((line-κs, (fullShare, (q₃, tt)), tt, line-args, line-vals), tt)
 
     abbrev line-toks : Item 𝓤
     line-toks = ‵ (flft (ν ∷ []) fullShare) ⊛ ‵ (flft κ₃ q₃) ⊛ ‵ ftrue
@@ -267,15 +274,15 @@ module _ {M : Type 1} (𝓤 : URA M) (H : Heap 𝓤) (A : Atoms 𝓤) (W : Given
     line-owns = owns (MutSlice (named 0) (ν ∷ []) u8 ∷ S.the-row ∷ ShrRef (named 1) κ₃ (Array u16 64) ∷ usize ∷ usize ∷ Wr.the-row ∷ [])
         line-args line-vals
 
-    goes-line : x .w .going ≡ true → l ≡ lineAt s (x .w .at) → ent 𝓤 (⋆ 𝓤 H A (line-toks ∷ ‵ line-owns ∷ [])) (PutLine 𝓤 H A at-mem run .pre to-line)
+    goes-line : x .w .going ≡ true → l ≡ lineAt s (x .m) → ent 𝓤 (⋆ 𝓤 H A (line-toks ∷ ‵ line-owns ∷ [])) (PutLine 𝓤 H A at-mem run .pre to-line)
     goes-line on e = qed W (line-toks ∷ ‵ line-owns ∷ []) ∵
-        says ! (under-fits o s list n part first ready (x .ys) (x .w) (x .under) on l e) $ frame ! $ done !
+        says ! (under-fits o s list n part first ready (x .ys) (x .m) (x .w) (x .under) on l e) $ frame ! $ done !
 
-    abbrev Gives : Writing → Lasts line-fn.ended κs line-args → Type 0
+    abbrev Gives : Writing → Lasts line-fn.ended line-κs line-args → Type 0
     Gives w zs = lineLeaves w (zs .0) ≡ lineDef l (take n list) first (x .w) (x .ys)
 
   module _ (𝓣 : Tables 𝓤 H) (known-start : Triple 𝓤 (𝓣 .C #att·after-states) (Start 𝓤 H A at-mem run))
-      (known-next : Triple 𝓤 (𝓣 .C #att·reading·next) (Next 𝓤 H A at-mem run)) (known-line : Triple 𝓤 (𝓣 .C #att·put-line) (PutLine 𝓤 H A at-mem run))
+      (known-advance : Triple 𝓤 (𝓣 .C #att·reading·advance) (Advance 𝓤 H A at-mem run)) (known-line : Triple 𝓤 (𝓣 .C #att·put-line) (PutLine 𝓤 H A at-mem run))
       (l₀ l₁ l₂ l₃ l₄ l₅ l₆ l₇ l₈ l₉ l₁₀ l₁₁ l₁₂ l₁₃ : ℕ) where
     abbrev C : Calls 𝓤 H
     C = 𝓣 .C
@@ -285,11 +292,11 @@ module _ {M : Type 1} (𝓤 : URA M) (H : Heap 𝓤) (A : Atoms 𝓤) (W : Given
 
     abbrev En : Env 𝓤 H
     En = (tyUnit, l₀) ∷ (OT, l₁) ∷ (ST, l₂) ∷ (AT, l₃) ∷ (word, l₄) ∷ (tyInt w8, l₅) ∷ (word, l₆) ∷ (LT, l₇) ∷ (WT, l₈) ∷ (NT, l₉) ∷ (tyBool, l₁₀)
-        ∷ (LT, l₁₁) ∷ (PT, l₁₂) ∷ (QT, l₁₃) ∷ []
+        ∷ (RT, l₁₁) ∷ (PT, l₁₂) ∷ (QT, l₁₃) ∷ []
 
     abbrev Dies : List (Item 𝓤)
     Dies = ‵ (fdies tyUnit l₀) ∷ ‵ (fdies OT l₁) ∷ ‵ (fdies ST l₂) ∷ ‵ (fdies AT l₃) ∷ ‵ (fdies word l₄) ∷ ‵ (fdies (tyInt w8) l₅) ∷ ‵ (fdies word l₆)
-        ∷ ‵ (fdies LT l₇) ∷ ‵ (fdies WT l₈) ∷ ‵ (fdies NT l₉) ∷ ‵ (fdies tyBool l₁₀) ∷ ‵ (fdies LT l₁₁) ∷ ‵ (fdies PT l₁₂) ∷ ‵ (fdies QT l₁₃) ∷ []
+        ∷ ‵ (fdies LT l₇) ∷ ‵ (fdies WT l₈) ∷ ‵ (fdies NT l₉) ∷ ‵ (fdies tyBool l₁₀) ∷ ‵ (fdies RT l₁₁) ∷ ‵ (fdies PT l₁₂) ∷ ‵ (fdies QT l₁₃) ∷ []
 
     abbrev At : Now → List (Item 𝓤)
     At x =
@@ -300,21 +307,21 @@ module _ {M : Type 1} (𝓤 : URA M) (H : Heap 𝓤) (A : Atoms 𝓤) (W : Given
         ∷ ‵ (fat fullShare word l₄ 0 (vint w64 n))
         ∷ ‵ (fat fullShare (tyInt w8) l₅ 0 (vint w8 part))
         ∷ ‵ (fat fullShare word l₆ 0 (vint w64 first))
-        ∷ ‵ (fat fullShare LT l₇ 0 (held (x .w .at)))
+        ∷ ‵ (fat fullShare LT l₇ 0 (held b₂ o₂ γ₂ s (x .m)))
         ∷ ‵ (fat fullShare WT l₈ 0 (low (x .w)))
         ∷ ‵ (froom NT l₉ 0)
         ∷ ‵ (froom tyBool l₁₀ 0)
-        ∷ ‵ (froom LT l₁₁ 0)
+        ∷ ‵ (froom RT l₁₁ 0)
         ∷ ‵ (froom PT l₁₂ 0)
         ∷ ‵ (froom QT l₁₃ 0)
         ∷ ‵ (cells (mem u8) (x .ys) b₁ o₁) ∷ ‵ (fobor κ₁ q₁ (Held u8 (length o) b₁ o₁ γ₁)) ∷ ‵ (fobs γ₁ (codedHoleys u8 .code (heres u8 o)))
         ∷ ‵ (fauth γ₁ (codedHoleys u8 .code (heres u8 o))) ∷ ‵ own₂ ∷ tok₂ ∷ ‵ own₃ ∷ ‵ (flft κ₃ q₃) ∷ Dies
 
     abbrev Nearer : Now → Now → Type 0
-    Nearer y x = ahead s (y .w .going) (y .w .at) < ahead s (x .w .going) (x .w .at)
+    Nearer y x = ahead s (y .w .going) (y .m) < ahead s (x .w .going) (x .m)
 
     Nearer-wf : WellFounded Nearer
-    Nearer-wf = InvImage·wf (λ (x : Now). ahead s (x .w .going) (x .w .at)) (Nat·lt-wfRel .wf)
+    Nearer-wf = InvImage·wf (λ (x : Now). ahead s (x .w .going) (x .m)) (Nat·lt-wfRel .wf)
 
     abbrev Turned : Now → Out → SProp 𝓤
     Turned x = afterTurn 𝓤 H (Below 𝓤 H A Nearer At x)
@@ -340,13 +347,10 @@ module _ {M : Type 1} (𝓤 : URA M) (H : Heap 𝓤) (A : Atoms 𝓤) (W : Given
         move ! (2 ∷ 8 ∷ []) $ free1 ! $ move ! (2 ∷ 7 ∷ []) $ free1 ! $ free0 ! $
         by ! (exits x end)
 
-    at-ok : (w : Writing) {u : Val} → Is Wr.the-row w (u ∷ []) → w .at < 2 ^ 64
-    at-ok w is = LL.owed Wr.the-type Wr′.the-laws w _ is .1 .0 .1
-
-    further : (x : Now) → x .w .going ≡ true → (w : Writing) (zs : List ℕ) (l : Line) → l ≡ lineAt s (x .w .at)
+    further : (x : Now) → x .w .going ≡ true → (w : Writing) (zs : List ℕ) (l : Line) → l ≡ lineAt s (x .m)
         → lineLeaves w zs ≡ lineDef l (take n list) first (x .w) (x .ys)
-        → Under zs o s part first w × (ahead s (w .going) (w .at) < ahead s (x .w .going) (x .w .at))
-    further x on w zs l e d = under-next o s list n part first ready (x .ys) (x .w) (x .under) on l e (lineLeaves w zs) d
+        → Under zs o s part first (placeAfter l (x .m)) w × (ahead s (w .going) (placeAfter l (x .m)) < ahead s (x .w .going) (x .m))
+    further x on w zs l e d = under-next o s list n part first ready (x .ys) (x .m) (x .w) (x .under) on l e (lineLeaves w zs) d
 
     more : (x : Now) → x .w .going ≡ true → Sq W (At x) (runs C Λ En code.Mir.turn-1 (anyQ (Turned x)))
     unfolding afterTurn
@@ -354,19 +358,27 @@ module _ {M : Type 1} (𝓤 : URA M) (H : Heap 𝓤) (A : Atoms 𝓤) (W : Given
         assigns ! (of-opd ! (load ! (from ! (fld ! refl (stop !))) (look-in ! 8 (sub ! 0 refl (whole !))))) (from ! (stop !)) (init ! 10 refl (tt, tt)) $
         rewrite ! 10 (λ (y : Bool). ‵ (fat fullShare tyBool l₁₀ 0 (vbool y))) on refl $
         stays ! (load ! (from ! (stop !)) (look ! 10 refl)) $
-        assigns ! (of-opd ! (load ! (from ! (stop !)) (look ! 7 refl))) (from ! (stop !))
-        (init ! 11 refl (typed b₂ o₂ γ₂ s g₂ (x .w .at) (at-ok (x .w) (x .ok)))) $
-        move ! (18 ∷ []) $ use1 W (‵ own₂ ⊛ ‵ own₂) (shr-slice-copy 𝓤 H A W (named 1) κ₂ u8 .twice r₂ (v₂ ∷ [])) $ split ! $ move ! (0 ∷ 20 ∷ []) $
-        use2 W (raw (Next 𝓤 H A at-mem run .pre (to-next b₂ o₂ γ₂ s κ₂ q₂ 𝓤 H A W at-mem run (x .w .at))))
-        (goes b₂ o₂ γ₂ s κ₂ q₂ 𝓤 H A W at-mem run (x .w .at) (at-ok (x .w) (x .ok))) $
-        -- [what `next` asks; what text owns; room for _0; …; _13; the bytes; the open borrow; obs; auth; what list owns; its token; …]
-        calls-at ! (fmOf 𝓤 H (W .laws) 𝓣) (Next 𝓤 H A at-mem run) known-next (to-next b₂ o₂ γ₂ s κ₂ q₂ 𝓤 H A W at-mem run (x .w .at))
+        assigns ! (addr ! (from ! (stop !))) (from ! (stop !)) (init ! 11 refl (tt, tt)) $
+        move ! (18 ∷ []) $ use1 W (‵ own₂ ⊛ ‵ own₂) (shr-slice-copy 𝓤 H A W (named 1) κ₂ u8 .twice r₂ (v₂ ∷ [])) $ split ! $ move ! (9 ∷ 0 ∷ 20 ∷ []) $
+        use3 W (later (some (λ (ν : ℕ). some (λ (δ : GName). raw (Advance 𝓤 H A at-mem run .pre (to b₂ o₂ γ₂ s 𝓤 H A W at-mem run κ₂ q₂ l₇ ν δ (x .m)))
+        ⊛ ‵ (Aside κ₂ q₂ l₇ ν δ))))) (lends b₂ o₂ γ₂ s 𝓤 H A W at-mem run κ₂ q₂ l₇ (x .m) (place-ok (x .m) (x .within))) $ await ! tt $
+        pick ! (λ ν₂. pick ! (λ δ₂. split ! $
+        -- [what `advance` asks; what is kept aside; what text owns; room for _0; …; first; writing; …; room for _13; the bytes; the open borrow; obs; auth;
+        -- what list owns; its token; …]
+        calls-at ! (fmOf 𝓤 H (W .laws) 𝓣) (Advance 𝓤 H A at-mem run) known-advance (to b₂ o₂ γ₂ s 𝓤 H A W at-mem run κ₂ q₂ l₇ ν₂ δ₂ (x .m))
         (and-then ! (load ! (from ! (stop !)) (look ! 13 refl)) (no-more !)) (λ u.
-        use1 W (later (some (λ (l : Line). (tok₂ ⊛ ‵ (S.the-row .own l (u ∷ [])))
-        ⊛ raw (ensured 𝓤 H A next.ended (next.clauses 𝓤 H A at-mem run) (κ₂, tt) (made b₂ o₂ γ₂ s (x .w .at), tt) tt l)))) (id⊢ 𝓤 _) $ await ! tt $
-        pick ! (λ l. split ! $ move ! (1 ∷ []) $ use1 W (raw (fact 𝓤 (l ≡ lineAt s (x .w .at)))) (said b₂ o₂ γ₂ s κ₂ q₂ 𝓤 H A W at-mem run (x .w .at) l) $
-        heard ! (l ≡ lineAt s (x .w .at)) (λ e. split ! $ move ! (1 ∷ []) $ peeks ! S.the-row (Is S.the-row) (shows 𝓤 H A S.the-row) l (u ∷ []) (λ are.
-        -- [the line; text's token; what text owns; room for _0; …; _13; the bytes; the open borrow; obs; auth; what list owns; its token; …]
+        use1 W (later (some (λ (l : Line). (toks κ₂ q₂ ν₂ ⊛ ‵ (S.the-row .own l (u ∷ [])))
+        ⊛ raw (ensured 𝓤 H A advance.ended (advance.clauses 𝓤 H A at-mem run) (κs κ₂ ν₂) (lent l₇ δ₂ (lines (x .m))) tt l)))) (id⊢ 𝓤 _) $ await ! tt $
+        pick ! (λ l. split ! $ move ! (1 ∷ []) $
+        use1 W (some (λ (zs : Lasts advance.ended (κs κ₂ ν₂) (lent l₇ δ₂ (lines (x .m)))). ‵
+        (lasts advance.ended (κs κ₂ ν₂) (lent l₇ δ₂ (lines (x .m))) zs) ⊛ raw (fact 𝓤 (Says κ₂ l₇ ν₂ δ₂ (lines (x .m)) l zs)))) (id⊢ 𝓤 _) $
+        pick ! (λ hs. split ! $ move ! (1 ∷ []) $ heard ! (Says κ₂ l₇ ν₂ δ₂ (lines (x .m)) l hs) (λ e. fsplit ! $ move ! (1 ∷ []) $ drop ! $
+        rewrite ! 0 (λ (h : Lines). ‵ (Last κ₂ ν₂ δ₂ h)) (e .1) refl $ move ! (1 ∷ []) $ split ! $ move ! (0 ∷ 3 ∷ 2 ∷ []) $
+        use3 W (later (‵ (Cell b₂ o₂ γ₂ s l₇ (placeAfter l (x .m))) ⊛ tok₂))
+        (comes b₂ o₂ γ₂ s 𝓤 H A W at-mem run κ₂ q₂ l₇ ν₂ δ₂ (placeAfter l (x .m))) $ await ! tt $ split ! $
+        -- [lines; text's token; the line; what text owns; room for _0; …; first; writing; …; room for _13; …]: lines goes back among the locals
+        move ! (2 ∷ 1 ∷ 3 ∷ 4 ∷ 5 ∷ 6 ∷ 7 ∷ 8 ∷ 9 ∷ 10 ∷ 0 ∷ []) $ peeks ! S.the-row (Is S.the-row) (shows 𝓤 H A S.the-row) l (u ∷ []) (λ are.
+        -- [the line; text's token; what text owns; room for _0; …; room for _13; the bytes; the open borrow; obs; auth; what list owns; its token; …]
         land ! (from ! (stop !)) (init ! 12 refl (EL.lawful S.the-type S′.the-laws 𝓤 H A W tt .typed l _ are .0)) $
         assigns ! (addr ! (from ! (fld ! refl (hop ! (look-in ! 4 (sub ! 0 refl (whole !))) (stop !))))) (from ! (stop !)) (init ! 15 refl (tt, tt)) $
         assigns ! (agg ! (and-then ! (load ! (from ! (stop !)) (look ! 15 refl))
@@ -374,9 +386,9 @@ module _ {M : Type 1} (𝓤 : URA M) (H : Heap 𝓤) (A : Atoms 𝓤) (W : Given
         (init ! 16 refl (tt, (tt, (record { fits = g₁ .0 }, tt)))) $
         -- the bytes are lent for a lifetime of the call
         lft-new ! tt (λ ν. move ! (18 ∷ []) $
-        use1 W (later (some (λ (δ : GName). ‵ (lent ν δ (x .ys) (length (x .ys))) ⊛ ‵ (flent (ν ∷ []) (Held u8 (length (x .ys)) b₁ o₁ δ)))))
+        use1 W (later (some (λ (δ : GName). ‵ (bytes ν δ (x .ys) (length (x .ys))) ⊛ ‵ (flent (ν ∷ []) (Held u8 (length (x .ys)) b₁ o₁ δ)))))
         (lends-slice 𝓤 H A W u8 (named 0) (ν ∷ []) (x .ys) b₁ o₁ (subst (Room u8) (sym (x .same)) g₁)) $ await ! tt $ pick ! (λ δ. split ! $
-        rewrite ! 0 (λ (j : ℕ). ‵ (lent ν δ (x .ys) j)) (x .same) refl $
+        rewrite ! 0 (λ (j : ℕ). ‵ (bytes ν δ (x .ys) j)) (x .same) refl $
         -- [the bytes, lent; the lender's part; the call's token; the line; text's token; what text owns; room for _0; …; _13; the open borrow;
         -- obs; auth; what list owns; its token; …]
         move ! (23 ∷ []) $ use1 W (‵ own₃ ⊛ ‵ own₃) (shr-copy 𝓤 H A W (named 2) κ₃ (Array u16 64) .twice r₃ (v₃ ∷ [])) $ split ! $
@@ -385,46 +397,51 @@ module _ {M : Type 1} (𝓤 : URA M) (H : Heap 𝓤) (A : Atoms 𝓤) (W : Given
         owned ! usize (Is usize) (uint-makes 𝓤 H A W w64) n _ (refl, n-ok) $ fjoin ! $
         move ! (1 ∷ 0 ∷ []) $ fjoin ! $ move ! (5 ∷ 0 ∷ []) $ fjoin ! $ move ! (2 ∷ 0 ∷ []) $ fjoin ! $
         nothing ! $ move ! (24 ∷ 0 ∷ []) $ join ! $ move ! (4 ∷ 0 ∷ []) $ join ! $
-        use2 W (raw (PutLine 𝓤 H A at-mem run .pre (to-line x l u ν δ))) (goes-line x l u ν δ on e) $
+        use2 W (raw (PutLine 𝓤 H A at-mem run .pre (to-line x l u ν δ))) (goes-line x l u ν δ on (e .0)) $
         -- [what `put_line` asks; what list owns; the lender's part; text's token; what text owns; room for _0; …; _13; the open borrow; obs; auth; …]
-        calls-at ! (fmOf 𝓤 H (W .laws) 𝓣) (PutLine 𝓤 H A at-mem run) known-line (to-line x l u ν δ)
+        calls-at-last ! (fmOf 𝓤 H (W .laws) 𝓣) (PutLine 𝓤 H A at-mem run) known-line (to-line x l u ν δ)
         (and-then ! (load ! (from ! (stop !)) (look ! 18 refl))
         (and-then ! (load ! (from ! (stop !)) (look ! 14 refl))
         (and-then ! (load ! (from ! (stop !)) (look ! 8 refl))
         (and-then ! (load ! (from ! (stop !)) (look ! 9 refl))
         (and-then ! (load ! (from ! (stop !)) (look ! 11 refl)) (and-then ! (load ! (from ! (stop !)) (look ! 13 refl)) (no-more !))))))) (λ z.
         use1 W (later (some (λ (w : Writing). (line-toks x l u ν δ ⊛ ‵ (Wr.the-row .own w (z ∷ [])))
-        ⊛ raw (ensured 𝓤 H A line-fn.ended (line-fn.clauses 𝓤 H A at-mem run) (κs x l u ν δ) (line-args x l u ν δ) tt w)))) (id⊢ 𝓤 _) $ await ! tt $
+        ⊛ raw (ensured 𝓤 H A line-fn.ended (line-fn.clauses 𝓤 H A at-mem run) (line-κs x l u ν δ) (line-args x l u ν δ) tt w)))) (id⊢ 𝓤 _) $ await ! tt $
         pick ! (λ w. split ! $ move ! (1 ∷ []) $
-        use1 W (some (λ (zs : Lasts line-fn.ended (κs x l u ν δ) (line-args x l u ν δ)). ‵
-        (lasts line-fn.ended (κs x l u ν δ) (line-args x l u ν δ) zs) ⊛ raw (fact 𝓤 (Gives x l u ν δ w zs)))) (id⊢ 𝓤 _) $
+        use1 W (some (λ (zs : Lasts line-fn.ended (line-κs x l u ν δ) (line-args x l u ν δ)). ‵
+        (lasts line-fn.ended (line-κs x l u ν δ) (line-args x l u ν δ) zs) ⊛ raw (fact 𝓤 (Gives x l u ν δ w zs)))) (id⊢ 𝓤 _) $
         pick ! (λ zs. split ! $ move ! (1 ∷ []) $
         heard ! (Gives x l u ν δ w zs) (λ d. fsplit ! $ fsplit ! $ move ! (1 ∷ []) $
         feqL ! (λ e₁. move ! (1 ∷ []) $ drop ! $ move ! (1 ∷ []) $ split ! $ move ! (1 ∷ []) $
         peeks ! Wr.the-row (Is Wr.the-row) (shows 𝓤 H A Wr.the-row) w (z ∷ []) (λ is.
         -- [the pass after the line; the tokens; the last bytes; what list owns; the lender's part; text's token; what text owns; room for _0; …]
-        land ! (from ! (stop !)) (store ! 15 refl (LL.lawful Wr.the-type Wr′.the-laws 𝓤 H A W .typed w _ is .0)) $
-        rewrite ! 15 (λ (y : Val). ‵ (fat fullShare WT l₈ 0 y)) (ap only (LL.tells Wr.the-type Wr′.the-laws w _ is)) refl $ drop ! $
-        split ! $ move ! (1 ∷ []) $ split ! $ move ! (1 ∷ []) $ drop ! $
+        move ! (1 ∷ []) $ split ! $ move ! (1 ∷ []) $ split ! $ move ! (1 ∷ []) $ drop ! $
         -- the lifetime is ended, and the bytes come back
-        move ! (1 ∷ []) $ lft-end ! tt $ move ! (0 ∷ 4 ∷ 2 ∷ []) $
+        move ! (1 ∷ []) $ lft-end ! tt $ move ! (0 ∷ 5 ∷ 3 ∷ []) $
         use3 W (later (‵ (Arr (mem u8) (length (x .ys)) .lies (zs .0) b₁ o₁))) (slice-back 𝓤 H A W u8 (ν ∷ []) δ (zs .0) (length (x .ys)) b₁ o₁) $
         await ! tt $ fsplit ! $ drop ! $
-        -- [the bytes; list's token; what list owns; text's token; what text owns; room for _0; …; _13; the open borrow; obs; auth; …]
-        assigns-last ! (of-opd ! (load ! (from ! (fld ! refl (stop !))) (look-in ! 13 (sub ! 1 refl (whole !))))) (from ! (fld ! refl (stop !)))
-        (store-in ! 12 (sub ! 1 refl (whole !)) (tt, record { fits = at-ok w is })) $
+        -- [the bytes; list's token; the pass after the line; what list owns; text's token; what text owns; room for _0; …; _13; the open borrow; …]
+        land-last ! (from ! (stop !)) (store ! 14 refl (LL.lawful Wr.the-type Wr′.the-laws 𝓤 H A W .typed w _ is .0)) $
+        rewrite ! 14 (λ (y : Val). ‵ (fat fullShare WT l₈ 0 y)) (ap only (LL.tells Wr.the-type Wr′.the-laws w _ is)) refl $ move ! (2 ∷ []) $ drop ! $
         forget ! 14 refl $ forget ! 15 refl $ forget ! 16 refl $ forget ! 17 refl $ forget ! 18 refl $
         keep ! (5 ∷ 6 ∷ 7 ∷ 8 ∷ 9 ∷ 10 ∷ 11 ∷ 12 ∷ 13 ∷ 14 ∷ 15 ∷ 16 ∷ 17 ∷ 18 ∷ 0 ∷ 19 ∷ 20 ∷ 21 ∷ 4 ∷ 3 ∷ 2 ∷ 1 ∷ 22 ∷ 23 ∷ 24 ∷ 25 ∷ 26 ∷ 27 ∷ 28
         ∷ 29 ∷ 30 ∷ 31 ∷ 32 ∷ 33 ∷ 34 ∷ 35 ∷ []) $
-        again ! Nearer At x (record { w = w; ok = lawful w z is; ys = zs .0; same = e₁ ∙ x .same; under = further x on w (zs .0) l e d .0 })
-        (further x on w (zs .0) l e d .1)))))))))))))
+        again ! Nearer At x (record {
+          m = placeAfter l (x .m);
+          within = after-within s (x .m) l (e .0) (x .within);
+          w = w;
+          ok = lawful w z is;
+          ys = zs .0;
+          same = e₁ ∙ x .same;
+          under = further x on w (zs .0) l (e .0) d .0;
+        }) (further x on w (zs .0) l (e .0) d .1))))))))))))))))
 
     turns : (x : Now) → Sq W (At x) (runs C Λ En code.Mir.turn-1 (anyQ (Turned x)))
     turns x = on-test (x .w .going) (more x) (ends x)
 
     -- [room for _13; …; room for _0; …; the tokens; what the parameters own]
     abbrev Rooms : List (Item 𝓤)
-    Rooms = ‵ (froom QT l₁₃ 0) ∷ ‵ (fdies QT l₁₃) ∷ ‵ (froom PT l₁₂ 0) ∷ ‵ (fdies PT l₁₂) ∷ ‵ (froom LT l₁₁ 0) ∷ ‵ (fdies LT l₁₁)
+    Rooms = ‵ (froom QT l₁₃ 0) ∷ ‵ (fdies QT l₁₃) ∷ ‵ (froom PT l₁₂ 0) ∷ ‵ (fdies PT l₁₂) ∷ ‵ (froom RT l₁₁ 0) ∷ ‵ (fdies RT l₁₁)
         ∷ ‵ (froom tyBool l₁₀ 0) ∷ ‵ (fdies tyBool l₁₀) ∷ ‵ (froom NT l₉ 0) ∷ ‵ (fdies NT l₉) ∷ ‵ (froom WT l₈ 0) ∷ ‵ (fdies WT l₈)
         ∷ ‵ (froom LT l₇ 0) ∷ ‵ (fdies LT l₇) ∷ ‵ (froom word l₆ 0) ∷ ‵ (fdies word l₆) ∷ ‵ (froom (tyInt w8) l₅ 0) ∷ ‵ (fdies (tyInt w8) l₅)
         ∷ ‵ (froom word l₄ 0) ∷ ‵ (fdies word l₄) ∷ ‵ (froom AT l₃ 0) ∷ ‵ (fdies AT l₃) ∷ ‵ (froom ST l₂ 0) ∷ ‵ (fdies ST l₂) ∷ ‵ (froom OT l₁ 0)
@@ -449,7 +466,6 @@ module _ {M : Type 1} (𝓤 : URA M) (H : Heap 𝓤) (A : Atoms 𝓤) (W : Given
         -- [the pass; room for _13; …; room for _8; …; lines; …; first; …; out; …; room for _0; …; the tokens; what the parameters own]
         land ! (from ! (stop !)) (init ! 11 refl (LL.lawful Wr.the-type Wr′.the-laws 𝓤 H A W .typed w _ is .0)) $
         rewrite ! 11 (λ (y : Val). ‵ (fat fullShare WT l₈ 0 y)) (ap only (LL.tells Wr.the-type Wr′.the-laws w _ is)) refl $ drop ! $
-        rewrite ! 12 (λ (m : ℕ). ‵ (fat fullShare LT l₇ 0 (held m))) (sym (start-at n w e)) refl $
         move ! (29 ∷ []) $ fsplit ! $ move ! (1 ∷ []) $ fsplit ! $ move ! (1 ∷ []) $ fsplit ! $ move ! (1 ∷ []) $ drop ! $
         move ! (31 ∷ []) $ split ! $ move ! (1 ∷ []) $ split ! $ move ! (1 ∷ []) $ split ! $ move ! (2 ∷ 1 ∷ []) $ join ! $
         -- [text's token; list's token; out's token; what list owns; what text owns; what out owns; room for _13; …]
@@ -459,28 +475,30 @@ module _ {M : Type 1} (𝓤 : URA M) (H : Heap 𝓤) (A : Atoms 𝓤) (W : Given
         keep ! (34 ∷ 32 ∷ 30 ∷ 28 ∷ 26 ∷ 24 ∷ 22 ∷ 20 ∷ 18 ∷ 16 ∷ 14 ∷ 12 ∷ 10 ∷ 8 ∷ 0 ∷ 1 ∷ 2 ∷ 3 ∷ 7 ∷ 4 ∷ 6 ∷ 5 ∷ 35 ∷ 33 ∷ 31 ∷ 29 ∷ 27 ∷ 25 ∷ 23
         ∷ 21 ∷ 19 ∷ 17 ∷ 15 ∷ 13 ∷ 11 ∷ 9 ∷ []) $
         in-turn ! $ blocks ! $ loops ! 𝓣 Nearer Nearer-wf At turns (record {
+          m = 0;
+          within = omega arith;
           w = w;
           ok = lawful w z is;
           ys = o;
           same = refl;
-          under = subst (Under o o s part first) (sym e) (under-start o s list n part first ready);
+          under = subst (Under o o s part first 0) (sym e) (under-start o s list n part first ready);
         })))))
 
-  walk : (𝓣 : Tables 𝓤 H) → Triple 𝓤 (𝓣 .C #att·after-states) (Start 𝓤 H A at-mem run) → Triple 𝓤 (𝓣 .C #att·reading·next) (Next 𝓤 H A at-mem run)
+  walk : (𝓣 : Tables 𝓤 H) → Triple 𝓤 (𝓣 .C #att·after-states) (Start 𝓤 H A at-mem run) → Triple 𝓤 (𝓣 .C #att·reading·advance) (Advance 𝓤 H A at-mem run)
       → Triple 𝓤 (𝓣 .C #att·put-line) (PutLine 𝓤 H A at-mem run)
       → ent 𝓤 (onEntry 𝓤 H A f.signature the-κs (q₁, (q₂, (q₃, tt))) args at)
       (WpFn 𝓤 H (𝓣 .C) (𝓣 .Λ) code.function (v₁ ∷ v₂ ∷ v₃ ∷ vint w64 n ∷ vint w8 part ∷ vint w64 first ∷ []) Post)
-  walk 𝓣 known-start known-next known-line =
+  walk 𝓣 known-start known-advance known-line =
       qed W (the-toks ∷ ‵ the-owns ∷ []) ∵ enter ! (𝓣 .C) (𝓣 .Λ) code.function (v₁ ∷ v₂ ∷ v₃ ∷ vint w64 n ∷ vint w8 part ∷ vint w64 first ∷ []) _ $
       alloc1 ! (λ l₀. alloc1 ! (λ l₁. alloc1 ! (λ l₂. alloc1 ! (λ l₃. alloc1 ! (λ l₄. alloc1 ! (λ l₅. alloc1 ! (λ l₆. alloc1 ! (λ l₇. alloc1 ! (λ l₈.
       alloc1 ! (λ l₉. alloc1 ! (λ l₁₀. alloc1 ! (λ l₁₁. alloc1 ! (λ l₁₂. alloc1 ! (λ l₁₃.
-      alloc0 ! $ opens 𝓣 known-start known-next known-line l₀ l₁ l₂ l₃ l₄ l₅ l₆ l₇ l₈ l₉ l₁₀ l₁₁ l₁₂ l₁₃))))))))))))))
+      alloc0 ! $ opens 𝓣 known-start known-advance known-line l₀ l₁ l₂ l₃ l₄ l₅ l₆ l₇ l₈ l₉ l₁₀ l₁₁ l₁₂ l₁₃))))))))))))))
 
 module _ {M : Type 1} (𝓤 : URA M) (H : Heap 𝓤) (A : Atoms 𝓤) (W : Given 𝓤 H A) (mem : Memory → SProp 𝓤) (run : Routine → Fun 𝓤) where
-  put-walks : (𝓣 : Tables 𝓤 H) → Triple 𝓤 (𝓣 .C #att·after-states) (Start 𝓤 H A mem run) → Triple 𝓤 (𝓣 .C #att·reading·next) (Next 𝓤 H A mem run)
+  put-walks : (𝓣 : Tables 𝓤 H) → Triple 𝓤 (𝓣 .C #att·after-states) (Start 𝓤 H A mem run) → Triple 𝓤 (𝓣 .C #att·reading·advance) (Advance 𝓤 H A mem run)
       → Triple 𝓤 (𝓣 .C #att·put-line) (PutLine 𝓤 H A mem run)
       → Walks 𝓤 H A f.ended stayed (WpFn 𝓤 H (𝓣 .C) (𝓣 .Λ) code.function) (f.clauses 𝓤 H A mem run)
-  put-walks 𝓣 known-start known-next known-line =
+  put-walks 𝓣 known-start known-advance known-line =
       walked 𝓤 H A f.ended stayed (f.clauses 𝓤 H A mem run) (WpFn 𝓤 H (𝓣 .C) (𝓣 .Λ) code.function)
       (λ κs. (slice-vals, (slice-vals, (ptr-vals, (uint-vals w64, (uint-vals w8, (uint-vals w64, tt)))))))
       (λ κs. (
@@ -494,7 +512,7 @@ module _ {M : Type 1} (𝓤 : URA M) (H : Heap 𝓤) (A : Atoms 𝓤) (W : Given
       walk 𝓤 H A W mem run (κs .0) (κs .1 .0) (κs .1 .1 .0) (qs .0) (qs .1 .0) (qs .1 .1 .0) (a .0 .ptr .0) (a .0 .ptr .1) (a .0 .name) (a .1 .0 .ptr .0)
       (a .1 .0 .ptr .1) (a .1 .0 .name) (a .1 .1 .0 .ptr .0) (a .1 .1 .0 .ptr .1) (a .1 .1 .0 .name) (a .0 .now) (a .1 .0 .now) (a .1 .1 .0 .now)
       (a .1 .1 .1 .0) (a .1 .1 .1 .1 .0) (a .1 .1 .1 .1 .1 .0) (are .0 .0 .1) (are .1 .0 .0 .1) (are .1 .1 .1 .0 .1) (are .1 .1 .1 .1 .0 .1)
-      (are .1 .1 .1 .1 .1 .0 .1) ready 𝓣 known-start known-next known-line))
+      (are .1 .1 .1 .1 .1 .0 .1) ready 𝓣 known-start known-advance known-line))
 
   goes-all : AllGo 𝓤 H A W 3 (f.signature .params) (f.ended .kept) stayed
   goes-all = (
@@ -512,12 +530,12 @@ module _ {M : Type 1} (𝓤 : URA M) (H : Heap 𝓤) (A : Atoms 𝓤) (W : Given
   )
 
 put-meets : {M : Type 1} (𝓤 : URA M) (H : Heap 𝓤) (A : Atoms 𝓤) → Given 𝓤 H A → (mem : Memory → SProp 𝓤) (run : Routine → Fun 𝓤) (𝓣 : Tables 𝓤 H)
-    → Triple 𝓤 (𝓣 .C #att·after-states) (Start 𝓤 H A mem run) → Triple 𝓤 (𝓣 .C #att·reading·next) (Next 𝓤 H A mem run)
+    → Triple 𝓤 (𝓣 .C #att·after-states) (Start 𝓤 H A mem run) → Triple 𝓤 (𝓣 .C #att·reading·advance) (Advance 𝓤 H A mem run)
     → Triple 𝓤 (𝓣 .C #att·put-line) (PutLine 𝓤 H A mem run)
     → Meets 𝓤 H A f.signature (WpFn 𝓤 H (𝓣 .C) (𝓣 .Λ) code.function) (f.spec 𝓤 H A mem run)
-put-meets 𝓤 H A W mem run 𝓣 known-start known-next known-line =
+put-meets 𝓤 H A W mem run 𝓣 known-start known-advance known-line =
     walk-meets 𝓤 H A f.ended stayed W (goes-all 𝓤 H A W mem run) (f.clauses 𝓤 H A mem run)
-    (WpFn 𝓤 H (𝓣 .C) (𝓣 .Λ) code.function) (WpFn-mono 𝓤 H (W .laws) 𝓣 code.function) (put-walks 𝓤 H A W mem run 𝓣 known-start known-next known-line)
+    (WpFn 𝓤 H (𝓣 .C) (𝓣 .Λ) code.function) (WpFn-mono 𝓤 H (W .laws) 𝓣 code.function) (put-walks 𝓤 H A W mem run 𝓣 known-start known-advance known-line)
 
 pub put-lines-spec : {M : Type 1} → stated.statement M
 unfolding code.routine tablesOf
@@ -527,7 +545,7 @@ put-lines-spec 𝓤 H 𝓜 𝓖 𝓡 =
     (put-meets 𝓤 H (𝓖 .A) (givenOf 𝓤 H 𝓜 𝓖) (𝓜 .mem) (𝓡 .run) (tablesOf 𝓤 H 𝓜 (tables 𝓤 H 𝓜 𝓡 code.env))
     (cited 𝓤 H (Start 𝓤 H (𝓖 .A) (𝓜 .mem) (𝓡 .run)) 𝓜 𝓡 code.env #att·after-states start-def.routine code.calls-att·after-states
     (start-thm.met 𝓤 H 𝓜 𝓖 𝓡))
-    (cited 𝓤 H (Next 𝓤 H (𝓖 .A) (𝓜 .mem) (𝓡 .run)) 𝓜 𝓡 code.env #att·reading·next next-def.routine code.calls-att·reading·next
-    (next-thm.met 𝓤 H 𝓜 𝓖 𝓡))
+    (cited 𝓤 H (Advance 𝓤 H (𝓖 .A) (𝓜 .mem) (𝓡 .run)) 𝓜 𝓡 code.env #att·reading·advance advance-def.routine code.calls-att·reading·advance
+    (advance-thm.met 𝓤 H 𝓜 𝓖 𝓡))
     (cited 𝓤 H (PutLine 𝓤 H (𝓖 .A) (𝓜 .mem) (𝓡 .run)) 𝓜 𝓡 code.env #att·put-line line-def.routine code.calls-att·put-line
     (line-thm.met 𝓤 H 𝓜 𝓖 𝓡)))

@@ -28,7 +28,7 @@ returns-2 : tie.Need-returns-2
 returns-2 c =
     let g = c .with-state .ensures in
     rw (c .before .before .line .given .1)
-    (record { more = refl; place = refl; count = omega arith; same = refl; room = g .room; lists = λ S l. g .lists S l })
+    (record { more = refl; count = omega arith; same = refl; room = g .room; lists = λ S l. g .lists S l })
 
 -- src/lib.rt:105:19
 enum-known-line-2 : tie.Need-enum-known-line-2
@@ -52,7 +52,7 @@ returns-3 c =
     let g = c .before .before .with-state2 .ensures in
     let h = c .before .with-state3 .ensures in
     rw (c .before .before .before .before .line2 .given .1)
-    (record { more = refl; place = refl; count = refl; same = refl; room = h .room; lists = λ S l. h .lists _ (g .lists S l) })
+    (record { more = refl; count = refl; same = refl; room = h .room; lists = λ S l. h .lists _ (g .lists S l) })
 
 -- src/lib.rt:113:22
 enum-known-line-3 : tie.Need-enum-known-line-3
