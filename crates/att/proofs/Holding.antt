@@ -33,7 +33,7 @@ use denote.Memory.{mem, cellAt, partOf}
 use denote.Laws.{Is, shows}
 use denote.Plain.{uint-makes}
 use denote.Builtin.{u8, usize}
-use denote.Ref.{RefT, MutRef}
+use denote.Ref.{RefT, NamedLft, MutRef}
 use denote.Lend.{lends-ref, ref-back}
 use denote.Signature.{namedLft}
 use denote.Slice.{sliceVal, ShrSlice, Room}
@@ -64,8 +64,12 @@ Advance 𝓤 H A mem run = tripleOf 𝓤 H A advance.signature (advance.spec �
 abbrev pub κs : Lft → ℕ → Lfts 2
 κs κ ν = (ν ∷ κ, (κ, tt))
 
+-- 'a of the signature, and the struct's type at it
+abbrev α : Lft → ℕ → NamedLft
+α κ ν = namedLft 2 1 tt (κs κ ν)
+
 abbrev B : Lft → ℕ → RattleType
-B κ ν = T.the-row (namedLft 2 1 tt (κs κ ν))
+B κ ν = T.the-row (α κ ν)
 
 -- the struct in the local l, lent under the name δ
 abbrev pub lent : ℕ → GName → Lines → RefT Lines × Unit {0}
@@ -111,9 +115,11 @@ module _ (b o : ℕ) (γ : GName) (s : List ℕ) where
     abbrev Ref : ℕ → GName → ℕ → Fml
     Ref ν δ n = MutRef (named 0) (ν ∷ κ) (B κ ν) .own (lent l δ (made n) .0) (vptr l 0 ∷ [])
 
-    asks : (ν : ℕ) (δ : GName) (n : ℕ) → ent 𝓤 (⋆ 𝓤 H A (toks κ q ν ∷ ‵ (owns (MutRef (named 0) (ν ∷ κ) (B κ ν) ∷ []) (lent l δ (made n)) (vptr l 0 ∷ [], tt)) ∷ []))
-        (Advance 𝓤 H A at-mem run .pre (to ν δ n))
-    asks ν δ n = qed W (toks κ q ν ∷ ‵ (owns (MutRef (named 0) (ν ∷ κ) (B κ ν) ∷ []) (lent l δ (made n)) (vptr l 0 ∷ [], tt)) ∷ []) ∵ join ! $ frame ! $ done !
+    abbrev Passed : ℕ → GName → ℕ → Fml
+    Passed ν δ n = owns (MutRef (named 0) (ν ∷ κ) (B κ ν) ∷ []) (lent l δ (made n)) (vptr l 0 ∷ [], tt)
+
+    asks : (ν : ℕ) (δ : GName) (n : ℕ) → ent 𝓤 (⋆ 𝓤 H A (toks κ q ν ∷ ‵ (Passed ν δ n) ∷ [])) (Advance 𝓤 H A at-mem run .pre (to ν δ n))
+    asks ν δ n = qed W (toks κ q ν ∷ ‵ (Passed ν δ n) ∷ []) ∵ join ! $ frame ! $ done !
 
     abbrev Lends : ℕ → ℕ → GName → SProp 𝓤
     Lends n ν δ = sep 𝓤 (Advance 𝓤 H A at-mem run .pre (to ν δ n)) (sem 𝓤 H A (Aside κ q l ν δ))
@@ -133,7 +139,7 @@ module _ (b o : ℕ) (γ : GName) (s : List ℕ) where
         -- [the local; the token of ν ∷ κ; κ's other half; nothing; the way back; what the text owns]
         move ! (5 ∷ []) $ nothing ! $ owned ! usize (Is usize) (uint-makes 𝓤 H A W w64) n _ (refl, ok) $ fjoin ! $ move ! (1 ∷ 0 ∷ []) $ fjoin ! $
         use1 W (‵ (B κ ν .own (made n) (held n ∷ [])))
-        (own-shut 𝓤 H A W (T.the-type (namedLft 2 1 tt (κs κ ν))) (T′.the-laws (namedLft 2 1 tt (κs κ ν))) (slice, (n, tt))) $
+        (own-shut 𝓤 H A W (T.the-type (α κ ν)) (T′.the-laws (α κ ν)) (slice, (n, tt))) $
         move ! (1 ∷ 0 ∷ []) $ fjoin ! $ fpack ! (List Val) (λ us. fsep (cellAt fullShare (B κ ν .mir) us l 0) (B κ ν .own (made n) us)) (held n ∷ []) $
         use1 W (later (some (λ (δ : GName). ‵ (Ref ν δ n) ⊛ ‵ (flent (ν ∷ κ) (Body (mem (B κ ν)) l 0 δ)))))
         (lends-ref 𝓤 H A W (B κ ν) (named 0) (ν ∷ κ) (made n) l 0) $ await ! tt $ pick ! (λ δ. split ! $
@@ -151,11 +157,12 @@ module _ (b o : ℕ) (γ : GName) (s : List ℕ) where
         -- [ν's part; half of κ's; its other half; what was kept aside; the last value]
         move ! (2 ∷ []) $ split ! $ move ! (3 ∷ 0 ∷ []) $ use2 W (‵ (flft κ q)) (W .lfts .lft-join κ q) $ move ! (3 ∷ []) $ fsplit ! $
         -- [the lender's part; the way back; the token of κ; nothing; ν's part; the last value]
-        move ! (4 ∷ 1 ∷ []) $ use2 W (‵ (flft (ν ∷ []) fullShare)) (apply∗ 𝓤 (A .lft (ν ∷ []) (PosShare·left q)) (A .lft (ν ∷ []) fullShare)) $ lft-end ! tt $
+        move ! (4 ∷ 1 ∷ []) $ use2 W (‵ (flft (ν ∷ []) fullShare)) (apply∗ 𝓤 (A .lft (ν ∷ []) (PosShare·left q)) (A .lft (ν ∷ []) fullShare)) $
+        lft-end ! tt $
         use1 W (‵ (fdead (ν ∷ κ))) (W .lfts .dead-incl (ν ∷ κ) (ν ∷ []) (meet-⊑-left (ν ∷ []) κ)) $ move ! (0 ∷ 1 ∷ 4 ∷ []) $
         use3 W (later (‵ (mem (B κ ν) .lies (made n) l 0))) (ref-back 𝓤 H A W (B κ ν) (ν ∷ κ) δ (made n) l 0) $ await ! tt $
-        fpick ! (λ vs. fsplit ! $ spelt ! (B κ ν) (Is (B κ ν)) (shows 𝓤 H A (B κ ν)) (LL.vals (T.the-type (namedLft 2 1 tt (κs κ ν))) (T′.the-laws (namedLft 2 1 tt (κs κ ν))))
-        (LL.tells (T.the-type (namedLft 2 1 tt (κs κ ν))) (T′.the-laws (namedLft 2 1 tt (κs κ ν)))) fullShare (made n) vs l 0 $
+        fpick ! (λ vs. fsplit ! $ spelt ! (B κ ν) (Is (B κ ν)) (shows 𝓤 H A (B κ ν)) (LL.vals (T.the-type (α κ ν)) (T′.the-laws (α κ ν)))
+        (LL.tells (T.the-type (α κ ν)) (T′.the-laws (α κ ν))) fullShare (made n) vs l 0 $
         -- [the local; what the struct owns; the token of κ; nothing]
         use1 W (‵ (Cell l n)) (W .laws .raw-at fullShare (T′.mir erased) l 0 (held n)) $ move ! (1 ∷ []) $ drop ! $ move ! (1 ∷ 2 ∷ []) $ join ! $
         move ! (1 ∷ 0 ∷ []) $ at-once ! $ done !)

@@ -196,7 +196,14 @@ fn states_of(n: usize) -> usize
 }
 
 // The second pass after a line: a final state is marked in its record, an arc is written after what is written so far.
-fn put_line(out: &mut [u8], line: Line, list: &[u16; book::STATES], n: usize, first: usize, w: Writing) -> Writing
+fn put_line(
+    out: &mut [u8],
+    line: Line,
+    list: &[u16; book::STATES],
+    n: usize,
+    first: usize,
+    w: Writing,
+) -> Writing
     requires { ⌜ LineFits line (now list) n first (w .used) (length (now out)) ⌝ }
     ensures { λ r. ⌜ lineLeaves r (now (out .exit)) ≡ lineDef line (take n (now (list .entry))) first w (now (out .entry)) ⌝ }
 {

@@ -282,8 +282,8 @@ module _ {M : Type 1} (𝓤 : URA M) (H : Heap 𝓤) (A : Atoms 𝓤) (W : Given
     Gives w zs = lineLeaves w (zs .0) ≡ lineDef l (take n list) first (x .w) (x .ys)
 
   module _ (𝓣 : Tables 𝓤 H) (known-start : Triple 𝓤 (𝓣 .C #att·after-states) (Start 𝓤 H A at-mem run))
-      (known-advance : Triple 𝓤 (𝓣 .C #att·reading·advance) (Advance 𝓤 H A at-mem run)) (known-line : Triple 𝓤 (𝓣 .C #att·put-line) (PutLine 𝓤 H A at-mem run))
-      (l₀ l₁ l₂ l₃ l₄ l₅ l₆ l₇ l₈ l₉ l₁₀ l₁₁ l₁₂ l₁₃ : ℕ) where
+      (known-advance : Triple 𝓤 (𝓣 .C #att·reading·advance) (Advance 𝓤 H A at-mem run))
+      (known-line : Triple 𝓤 (𝓣 .C #att·put-line) (PutLine 𝓤 H A at-mem run)) (l₀ l₁ l₂ l₃ l₄ l₅ l₆ l₇ l₈ l₉ l₁₀ l₁₁ l₁₂ l₁₃ : ℕ) where
     abbrev C : Calls 𝓤 H
     C = 𝓣 .C
 
@@ -363,8 +363,8 @@ module _ {M : Type 1} (𝓤 : URA M) (H : Heap 𝓤) (A : Atoms 𝓤) (W : Given
         use3 W (later (some (λ (ν : ℕ). some (λ (δ : GName). raw (Advance 𝓤 H A at-mem run .pre (to b₂ o₂ γ₂ s 𝓤 H A W at-mem run κ₂ q₂ l₇ ν δ (x .m)))
         ⊛ ‵ (Aside κ₂ q₂ l₇ ν δ))))) (lends b₂ o₂ γ₂ s 𝓤 H A W at-mem run κ₂ q₂ l₇ (x .m) (place-ok (x .m) (x .within))) $ await ! tt $
         pick ! (λ ν₂. pick ! (λ δ₂. split ! $
-        -- [what `advance` asks; what is kept aside; what text owns; room for _0; …; first; writing; …; room for _13; the bytes; the open borrow; obs; auth;
-        -- what list owns; its token; …]
+        -- [what `advance` asks; what is kept aside; what text owns; room for _0; …; first; writing; …; room for _13; the bytes; the open borrow;
+        -- obs; auth; what list owns; its token; …]
         calls-at ! (fmOf 𝓤 H (W .laws) 𝓣) (Advance 𝓤 H A at-mem run) known-advance (to b₂ o₂ γ₂ s 𝓤 H A W at-mem run κ₂ q₂ l₇ ν₂ δ₂ (x .m))
         (and-then ! (load ! (from ! (stop !)) (look ! 13 refl)) (no-more !)) (λ u.
         use1 W (later (some (λ (l : Line). (toks κ₂ q₂ ν₂ ⊛ ‵ (S.the-row .own l (u ∷ [])))
