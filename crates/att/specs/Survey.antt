@@ -17,7 +17,7 @@ use Rattle.att.specs.declared.Survey.{Survey}
 use Rattle.att.specs.declared.Writing.{Writing}
 use Rattle.att.specs.declared.Plan.{Plan}
 
--- where the reading goes on after a line at `at`: at the next one, or where it is if the line is the last
+-- where the reading goes on after a line at `at`: at the next one; where it is, at the end and at a faulty line
 abbrev pub placeAfter : Line → ℕ → ℕ
 placeAfter End at = at
 placeAfter (Final x next) at = next

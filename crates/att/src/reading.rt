@@ -119,7 +119,7 @@ fn line_at(text: &[u8], at: usize) -> Line
     line_in(l, false, 0)
 }
 
-// Where the reading goes on after a line: at the next one, or where it is if the line is the last.
+// Where the reading goes on after a line: at the next one; where it is, at the end and at a faulty line.
 fn place_after(line: Line, at: usize) -> usize
     ensures { λ r. ⌜ r ≡ placeAfter line at ⌝ }
 {
