@@ -11,11 +11,19 @@ pub enum Operation {
     Account = 4,
     Show = 5,
     Heat = 6,
+    Import = 7,
 }
 
 impl Operation {
-    pub const ALL: [Operation; 6] =
-        [Operation::Check, Operation::Build, Operation::Rewrite, Operation::Account, Operation::Show, Operation::Heat];
+    pub const ALL: [Operation; 7] = [
+        Operation::Check,
+        Operation::Build,
+        Operation::Rewrite,
+        Operation::Account,
+        Operation::Show,
+        Operation::Heat,
+        Operation::Import,
+    ];
 
     pub fn numbered(number: u8) -> Option<Operation> {
         Operation::ALL.into_iter().find(|operation| *operation as u8 == number)
@@ -29,6 +37,7 @@ impl Operation {
             Operation::Account => "ACCOUNT",
             Operation::Show => "SHOW",
             Operation::Heat => "HEAT",
+            Operation::Import => "IMPORT",
         }
     }
 }
@@ -56,12 +65,14 @@ pub struct Call {
     pub operation: Operation,
     /// The byte that stands everywhere in the lent buffers before the call, and in what a lane record gets back.
     pub fill: u8,
+    /// For IMPORT the text.
     pub book: Vec<u8>,
     /// For HEAT the common buffer.
     pub tape: Vec<u8>,
     pub lengths: Lengths,
-    /// SHOW alone: the account, and the number of the line.
+    /// SHOW alone: the account.
     pub account: Vec<u16>,
+    /// For SHOW the number of the line, for IMPORT the part and 256 times the first number.
     pub line: u32,
     /// HEAT alone: what its lane records say.
     pub lanes: Vec<Lane>,
@@ -98,6 +109,16 @@ impl Call {
         }
     }
 
+    /// IMPORT alone: the part, the low byte of the line.
+    pub fn part(&self) -> u8 {
+        self.line.to_le_bytes()[0]
+    }
+
+    /// IMPORT alone: the first number, the next byte of the line. What stands above it is not looked at.
+    pub fn first(&self) -> u8 {
+        self.line.to_le_bytes()[1]
+    }
+
     /// The lengths of the buffers that the operation is lent, 0 for the others.
     pub fn lent_lengths(&self) -> Lengths {
         let Lengths { rows, sets, scratch, out, origins, lines } = self.lengths;
@@ -106,6 +127,7 @@ impl Call {
             Operation::Build => Lengths { rows, sets, ..Lengths::default() },
             Operation::Rewrite | Operation::Heat => Lengths { rows, sets, scratch, out, origins, lines: 0 },
             Operation::Account => Lengths { rows, sets, scratch, lines, ..Lengths::default() },
+            Operation::Import => Lengths { out, ..Lengths::default() },
         }
     }
 
@@ -190,6 +212,9 @@ impl Call {
     /// The call in words, for a reader who wants to work it by hand.
     pub fn in_words(&self) -> String {
         let mut words = format!("{}, old contents {:#04x}\n", self.operation.name(), self.fill);
+        if self.operation == Operation::Import {
+            return words + &self.import_in_words();
+        }
         for piece in crate::record::pieces(&self.book) {
             words += &format!("  book: {}\n", crate::record::in_words(&piece));
         }
@@ -203,6 +228,12 @@ impl Call {
             words += &format!("  {:?}\n", self.lengths);
         }
         words
+    }
+
+    fn import_in_words(&self) -> String {
+        let lines = self.book.split_inclusive(|byte| *byte == b'\n');
+        let text: String = lines.map(|line| format!("  text: {}\n", line.escape_ascii())).collect();
+        text + &format!("  part {}, first number {}, room {}\n", self.part(), self.first(), self.lengths.out)
     }
 }
 

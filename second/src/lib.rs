@@ -1,12 +1,12 @@
-//! The independent second program: what document 01 says, with No. 1, No. 2 and No. 4 to No. 6 of document 02, worked
+//! The independent second program: what document 01 says, with No. 1, No. 2 and No. 4 to No. 7 of document 02, worked
 //! out by brute force, and compared with what the proved operations do. It shares no code, no table and no constant with
 //! them.
 //!
 //! The reference is read in this order: `record`, `book`, `run`, `language`, `candidates`, `taken`, `stretches`,
 //! `output`, `account`, `sets`, `numbering`, `sides`, `workspace`, `admission`, `room`, `rewrite`, `show`, `lane`, `heat`,
-//! `operations`, `digits`, `program`; `agreement` says where `fast` stands in for it. Beside it stand the random calls
-//! (`generate`), the driving of another program (`call`, `answer`, `command`, `comparison`), the search for a smallest
-//! failing case (`shrink`), and the commands (`check`, `check_program`, `serve`).
+//! `text`, `import`, `operations`, `digits`, `program`; `agreement` says where `fast` stands in for it. Beside it stand
+//! the random calls (`generate`), the driving of another program (`call`, `answer`, `command`, `comparison`), the search
+//! for a smallest failing case (`shrink`), and the commands (`check`, `check_program`, `serve`).
 
 pub mod account;
 pub mod admission;
@@ -28,6 +28,7 @@ pub mod hand;
 pub mod heat;
 pub mod hex;
 pub mod house;
+pub mod import;
 pub mod lane;
 pub mod language;
 pub mod numbering;
@@ -48,6 +49,7 @@ pub mod sides;
 pub mod stretches;
 pub mod taken;
 pub mod tally;
+pub mod text;
 pub mod workspace;
 pub mod wrong_digit;
 pub mod wrong_insertion;

@@ -7,6 +7,7 @@ use crate::answer::{Answer, Lent};
 use crate::book::{self, Book, Refusal};
 use crate::call::{Call, Operation};
 use crate::heat::heat;
+use crate::import::import;
 use crate::reading::{Reading, Wrong};
 use crate::rewrite::{self, Rewritten};
 use crate::room::{no_room, room, write_front};
@@ -33,6 +34,8 @@ pub fn answer_by(call: &Call, agreement: &Agreement) -> Answer {
         Operation::Account => account(call, &mut lent, agreement),
         Operation::Show => return shown(call, reading),
         Operation::Heat => heat(call, &mut lent, agreement).map(|()| NO_COUNTS),
+        // "Acceptance returns the length written"
+        Operation::Import => import(call, &mut lent, reading).map(|length| [length, 0, 0, 0]),
     };
     let (refusal, counts) = match result {
         Ok(counts) => (Refusal { reply: 0, place: 0 }, counts),

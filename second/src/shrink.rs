@@ -2,6 +2,7 @@
 
 use crate::call::{Call, Lane, Lengths, Operation};
 use crate::generate::buffers::{lane_tapes, needed, needed_by_lanes};
+use crate::generate::imports;
 use crate::record::{self, ARC, RULE, STATE};
 use crate::workspace;
 
@@ -44,15 +45,19 @@ fn one_step(call: &Call, from: usize, first_failing: FirstFailing) -> Option<(Ca
 fn size(call: &Call) -> usize {
     let Lengths { rows, sets, scratch, out, origins, lines } = call.lengths;
     let lengths = [rows.abs_diff(workspace::ROW_BYTES), sets.abs_diff(workspace::SETS), scratch, out, origins, lines];
-    let not_zero = |bytes: &[u8]| bytes.iter().filter(|byte| **byte != 0).count();
+    let not = |plain: u8, bytes: &[u8]| bytes.iter().filter(|byte| **byte != plain).count();
+    let (plain, line) = match call.operation {
+        Operation::Import => (b'0', weight(call.part() as usize) + weight(call.first() as usize)),
+        _ => (0, weight(call.line as usize)),
+    };
     let lanes = call.lanes.iter().flat_map(|lane| [lane.start, lane.length]);
     100 * (call.book.len() + call.tape.len() + call.account.len() + call.lanes.len())
         + lengths.into_iter().map(weight).sum::<usize>()
         + call.account.iter().map(|word| weight(*word as usize)).sum::<usize>()
         + lanes.map(|number| weight(number as usize)).sum::<usize>()
-        + not_zero(&call.tape)
-        + not_zero(&call.book)
-        + weight(call.line as usize)
+        + not(0, &call.tape)
+        + not(plain, &call.book)
+        + line
         + usize::from(call.fill != 0)
 }
 
@@ -70,7 +75,11 @@ type Try<'a> = Box<dyn Fn() -> Call + 'a>;
 /// Calls with something left out or made plainer, the largest steps first.
 fn smaller(call: &Call) -> Vec<Try<'_>> {
     let was = needed_by(call);
-    let books = smaller_books(&call.book).into_iter().map(|book| Call { book, ..call.clone() });
+    let books = match call.operation {
+        Operation::Import => smaller_texts(&call.book),
+        _ => smaller_books(&call.book),
+    };
+    let books = books.into_iter().map(|book| Call { book, ..call.clone() });
     let tapes = smaller_lists(&call.tape).into_iter().map(|tape| Call { tape, ..call.clone() });
     let mut tries: Vec<Try> = Vec::new();
     for changed in smaller_heats(call).into_iter().chain(books).chain(tapes) {
@@ -80,7 +89,7 @@ fn smaller(call: &Call) -> Vec<Try<'_>> {
     }
     let accounts = smaller_lists(&call.account).into_iter().map(|account| Call { account, ..call.clone() });
     let lengths = smaller_lengths(call, was).into_iter().map(|lengths| Call { lengths, ..call.clone() });
-    let lines = [0, call.line / 2, call.line.saturating_sub(1)].map(|line| Call { line, ..call.clone() });
+    let lines = smaller_lines(call).into_iter().map(|line| Call { line, ..call.clone() });
     let filled = Call { fill: 0, ..call.clone() };
     for plainer in accounts.chain(lengths).chain(lines).chain([filled]) {
         tries.push(Box::new(move || plainer.clone()));
@@ -92,6 +101,7 @@ fn needed_by(call: &Call) -> usize {
     match call.operation {
         Operation::Rewrite | Operation::Account => needed(call),
         Operation::Heat => needed_by_lanes(call).iter().sum(),
+        Operation::Import => imports::needed(call),
         _ => 0,
     }
 }
@@ -135,6 +145,17 @@ fn smaller_lengths(call: &Call, exact: usize) -> Vec<Lengths> {
         all.push(Lengths { lines: shorter, ..lengths });
     }
     all
+}
+
+/// A smaller line of SHOW; for IMPORT a smaller part, or a smaller first number.
+fn smaller_lines(call: &Call) -> Vec<u32> {
+    let less = |number: u32| [0, number / 2, number.saturating_sub(1)];
+    if call.operation != Operation::Import {
+        return less(call.line).to_vec();
+    }
+    let (part, first) = (u32::from(call.part()), u32::from(call.first()));
+    let parts = less(part).map(|part| part + 256 * first);
+    [parts, less(first).map(|first| part + 256 * first)].concat()
 }
 
 /// A heat of one lane's tape alone; then with lanes left out, with symbols left out, or with a lane's numbers smaller.
@@ -208,6 +229,17 @@ fn smaller_books(book: &[u8]) -> Vec<Vec<u8>> {
             smaller.push([&pieces[..at], &[plainer], &pieces[at + 1..]].concat().concat());
         }
     }
+    smaller
+}
+
+/// A text without some of its lines or bytes; then with a byte made 0, the digit.
+fn smaller_texts(text: &[u8]) -> Vec<Vec<u8>> {
+    let lines: Vec<&[u8]> = text.split_inclusive(|byte| *byte == b'\n').collect();
+    let left_out = |(from, to): (usize, usize)| [&text[..from], &text[to..]].concat();
+    let mut smaller: Vec<Vec<u8>> = Vec::new();
+    smaller.extend(parts(lines.len()).into_iter().map(|(from, to)| [&lines[..from], &lines[to..]].concat().concat()));
+    smaller.extend(parts(text.len()).into_iter().map(left_out));
+    smaller.extend((0..text.len().min(TRIED_AT_ONCE)).map(|at| [&text[..at], b"0", &text[at + 1..]].concat()));
     smaller
 }
 

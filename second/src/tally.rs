@@ -6,7 +6,7 @@ use crate::call::Operation;
 /// A run of this many calls must meet every reply of every operation and of a lane.
 pub const WHOLE_RUN: u64 = 20_000;
 
-const REPLIES: usize = 18;
+const REPLIES: usize = 22;
 const COLUMNS: usize = Operation::ALL.len() + 1;
 
 /// Whose replies are counted in one column of the table.
@@ -37,7 +37,8 @@ impl Replies {
     }
 
     /// "CHECK gives 1 to 8; BUILD adds 11, 13, 14; the two others give all." Document 02, No. 2: "16 .. then 1 to 8, 11,
-    /// 13, 14 for the whole call .. then per lane 17 .. 9, 10, 12, 15". No. 5: "7 is no longer given."
+    /// 13, 14 for the whole call .. then per lane 17 .. 9, 10, 12, 15". No. 5: "7 is no longer given." No. 7: "5 .. 20 ..
+    /// 18 .. 19 .. then 21 .. then 15".
     fn can_be(self, reply: usize) -> bool {
         match self {
             _ if reply == 7 => false,
@@ -46,6 +47,7 @@ impl Replies {
             Replies::Of(Operation::Rewrite | Operation::Account) => reply <= 15,
             Replies::Of(Operation::Show) => reply == 0,
             Replies::Of(Operation::Heat) => reply <= 8 || matches!(reply, 11 | 13 | 14 | 16),
+            Replies::Of(Operation::Import) => matches!(reply, 0 | 5 | 15 | 18..=21),
             Replies::OfLanes => matches!(reply, 0 | 9 | 10 | 12 | 15 | 17),
         }
     }

@@ -60,7 +60,7 @@ fn bad_requests_are_refused() {
     let good = Call::new(Operation::Check).to_bytes();
     assert!(!refused(&good));
     assert!((1..good.len()).all(|length| refused(&good[..length])), "cut short");
-    assert!([0, 7, 255].iter().all(|operation| refused(&[&[*operation], &good[1..]].concat())), "another operation");
+    assert!([0, 8, 255].iter().all(|operation| refused(&[&[*operation], &good[1..]].concat())), "another operation");
     for length in 0..8 {
         let mut long = good.clone();
         long[2 + 4 * length..][..4].copy_from_slice(&131_073u32.to_le_bytes());

@@ -14,7 +14,7 @@ use second::reading::{Reading, Wrong};
 use second::wrong_symbol::is_old;
 
 const SEED: u64 = 12;
-const CALLS: u64 = 4000;
+const CALLS: u64 = 5000;
 /// Rows enough before, and rows enough now.
 const OLD: usize = 8192;
 const NEW: usize = 16_384;

@@ -142,7 +142,8 @@ fn mostly_enough(needed: usize, chance: &mut Chance) -> usize {
     chance.weighted(&[(50, needed), (25, more), (3, needed - 1), (1, 0), (1, fewer)])
 }
 
-fn around(needed: usize, chance: &mut Chance) -> usize {
+/// Room as needed or about that much.
+pub fn around(needed: usize, chance: &mut Chance) -> usize {
     let more = needed + chance.between(1, 12);
     let fewer = chance.below(needed.max(1));
     let short = needed.saturating_sub(1);

@@ -1,7 +1,7 @@
 //! Call number so-and-so of a run with a seed.
 
 use super::alphabet::Alphabet;
-use super::{accounts, buffers, damage, heats, limits, rules, tapes};
+use super::{accounts, buffers, damage, heats, imports, limits, rules, tapes};
 use crate::admission::LONGEST_TAPE;
 use crate::call::{Call, Operation};
 use crate::chance::Chance;
@@ -12,9 +12,10 @@ pub fn call(seed: u64, number: u64) -> Call {
     if let Some(call) = limits::limit_in_turn(number, chance) {
         return call.within_limits();
     }
-    let call = match chance.weighted(&[(8, 0), (12, 1), (80, 2)]) {
+    let call = match chance.weighted(&[(8, 0), (12, 1), (18, 2), (80, 3)]) {
         0 => limits::limit_call(chance),
         1 => accounts::show_call(chance),
+        2 => imports::import_call(chance),
         _ => ordinary_call(chance),
     };
     call.within_limits()

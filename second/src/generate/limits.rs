@@ -5,6 +5,7 @@ use super::buffers::{most_inserted, most_replaced};
 use super::damage;
 use super::full;
 use super::heats;
+use super::imports;
 use super::tapes;
 use crate::account::WORDS_A_LINE;
 use crate::admission::LONGEST_TAPE;
@@ -38,6 +39,9 @@ pub const LIMITS: &[Limit] = &[
     ("house book", 120, house_tape),
     ("ten or eleven lanes", 60, ten_lanes),
     ("ten longest lanes", 4, longest_lanes),
+    ("state number 63 or 64", 60, imports::last_state),
+    ("512 or 513 imported arcs", 60, imports::last_arc),
+    ("longest text", 20, imports::longest_text),
 ];
 
 /// From this call on a run goes through the limits in turn, so that a run of some length surely meets each of them;
