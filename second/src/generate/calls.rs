@@ -1,7 +1,7 @@
 //! Call number so-and-so of a run with a seed.
 
 use super::alphabet::Alphabet;
-use super::{accounts, buffers, damage, heats, imports, limits, rules, tapes};
+use super::{accounts, buffers, damage, heats, imported, imports, limits, rules, tapes};
 use crate::admission::LONGEST_TAPE;
 use crate::call::{Call, Operation};
 use crate::chance::Chance;
@@ -30,10 +30,13 @@ fn ordinary_call(chance: &mut Chance) -> Call {
         (22, Operation::Heat),
     ]);
     let alphabet = Alphabet::of(chance);
-    let rules = rules::rules(&alphabet, chance);
+    let mut rules = rules::rules(&alphabet, chance);
     // So that an old book meets a new tape, and a new book an old one.
-    let of_tape = if chance.one_in(6) { Alphabet::of(chance) } else { alphabet };
-    let records = draft::mixed_records(&rules, chance);
+    let of_tape = if chance.one_in(6) { Alphabet::of(chance) } else { alphabet.clone() };
+    let records = match chance.one_in(8) {
+        false => draft::mixed_records(&rules, chance),
+        true => imported::with_imported_part(&mut rules, &alphabet, chance),
+    };
     let damaged = match operation {
         Operation::Check => chance.below(10) < 8,
         // So that too many lanes often meet a damaged book.

@@ -9,6 +9,7 @@ pub mod calls;
 pub mod damage;
 pub mod full;
 pub mod heats;
+pub mod imported;
 pub mod imports;
 pub mod limits;
 pub mod lines;

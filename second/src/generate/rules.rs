@@ -32,7 +32,8 @@ pub fn rules(alphabet: &Alphabet, chance: &mut Chance) -> Vec<Rule> {
     rules
 }
 
-fn fits(rules: &[Rule], rule: &Rule) -> bool {
+/// Whether the book may have this rule too.
+pub fn fits(rules: &[Rule], rule: &Rule) -> bool {
     let states: usize = rules.iter().map(Rule::states).sum();
     let arcs: usize = rules.iter().map(Rule::arcs).sum();
     states + rule.states() <= MOST_STATES && arcs + rule.arcs() <= MOST_ARCS
