@@ -56,7 +56,8 @@ fn counts_of_refusal(call: &Call, refusal: Refusal, reading: Reading) -> Counts 
     if reading.is(Wrong::CountsKept) && call.operation == Operation::Check {
         return book::read_with_rest(&call.book, reading).map_or_else(|(_, rest)| counts_of_book(&rest), |_| NO_COUNTS);
     }
-    if reading.is(Wrong::RoomKeepsCounts) && refusal.reply == 15 {
+    let kept = reading.is(Wrong::ImportKeepsLength) && call.operation == Operation::Import;
+    if (reading.is(Wrong::RoomKeepsCounts) || kept) && refusal.reply == 15 {
         return [refusal.place, 0, 0, 0];
     }
     NO_COUNTS

@@ -1,4 +1,4 @@
-//! How document 01, with No. 1, No. 2 and No. 4 to No. 6 of document 02, is read: truly, or with one wrong reading put
+//! How document 01, with No. 1, No. 2 and No. 4 to No. 7 of document 02, is read: truly, or with one wrong reading put
 //! in.
 //!
 //! A check that cannot fail is a defect, so every wrong reading below can be put into the reference
@@ -352,6 +352,163 @@ wrong_readings! {
     OldBookOldRows, "old-book-old-rows", "A book that names no symbol above 15 keeps rows of 16 entries.";
     OldFrontCleared, "old-front-cleared", "13 and 14 clear the first 8,192 bytes of the rows alone.";
     OldFrontWritten, "old-front-written", "Entries past a count are 0 in the first 8,192 bytes alone.";
+
+    // Parts drawn in the university's tool: document 02, No. 7. First what a line is.
+    TwoFieldsAlone, "two-fields-alone", "20 is given for two fields alone, and four are 18.";
+    FourFieldsAlone, "four-fields-alone", "20 is given for four fields alone, and two are 18.";
+    FieldsAreLine, "fields-are-line", "Two or four fields are 18 too, and 20 is never given.";
+    FiveFieldsWeighted, "five-fields-weighted", "Five fields are 20 too.";
+    MoreFieldsWeighted, "more-fields-weighted", "Five or more fields are 20 too.";
+    NumbersBeforeFields, "numbers-before-fields", "Two or four fields are 20 only if all of them are numbers.";
+    StatesBeforeWeight, "states-before-weight", "Two or four fields are 20 only if numbers stand before the last.";
+    NewlineBeforeFields, "newline-before-fields", "Two or four fields without a newline are 18.";
+    ReturnBeforeFields, "return-before-fields", "Two or four fields with a carriage return are 18.";
+    EmptyFieldsUncounted, "empty-fields-uncounted", "An empty field does not count: several tabs are one.";
+    LastTabDropped, "last-tab-dropped", "A tab at a line's end begins no field.";
+    BlankSeparates, "blank-separates", "A blank separates fields as a tab does.";
+    ReturnTolerated, "return-tolerated", "A carriage return at a line's end is dropped.";
+    NewlineNotNeeded, "newline-not-needed", "The last line needs no newline.";
+    UnendedLineDropped, "unended-line-dropped", "A last line without newline is not read.";
+    UnendedIsWeighted, "unended-is-weighted", "A line without newline is 20.";
+    BareLineSkipped, "bare-line-skipped", "An empty line of a text is skipped.";
+    BareEndSkipped, "bare-end-skipped", "Empty lines at the text's end are skipped.";
+    BareLineEnds, "bare-line-ends", "An empty line ends the text.";
+    BareIsWeighted, "bare-is-weighted", "An empty line is 20.";
+    TextEndsAtZero, "text-ends-at-zero", "A byte 0 ends the text.";
+
+    // Its numbers.
+    LeadingZerosRefused, "leading-zeros-refused", "A number with zeros in front is 18.";
+    LeadingZerosOctal, "leading-zeros-octal", "A number with a zero in front is octal.";
+    PlusTolerated, "plus-tolerated", "A plus sign may stand before a number.";
+    MinusTolerated, "minus-tolerated", "A minus sign before a number is dropped.";
+    BlanksDropped, "blanks-dropped", "Blanks around a number are dropped.";
+    EmptyFieldIsZero, "empty-field-is-zero", "An empty field is the number 0.";
+    FieldReadToDigits, "field-read-to-digits", "What follows the digits of a field is dropped.";
+    LongStateRefused, "long-state-refused", "A state of more than five digits is 18, zeros in front too.";
+    LongLabelRefused, "long-label-refused", "A label of more than two digits is 18.";
+    HighestStateRefused, "highest-state-refused", "State 65,535 is refused.";
+    NextStateAccepted, "next-state-accepted", "State 65,536 is accepted.";
+    SourceFree, "source-free", "A source may be above 65,535.";
+    DestinationFree, "destination-free", "A destination may be above 65,535.";
+    FinalFree, "final-free", "A final state may be above 65,535.";
+    StateOf16Bits, "state-of-16-bits", "A state wraps around at 16 bits.";
+    StateOf32Bits, "state-of-32-bits", "A state wraps around at 32 bits.";
+    StateOf64Bits, "state-of-64-bits", "A state wraps around at 64 bits.";
+    LabelOf5Bits, "label-of-5-bits", "A label wraps around at 5 bits.";
+    LabelOf8Bits, "label-of-8-bits", "A label wraps around at 8 bits.";
+    LabelOf16Bits, "label-of-16-bits", "A label wraps around at 16 bits.";
+    LabelOf32Bits, "label-of-32-bits", "A label wraps around at 32 bits.";
+    LabelOf64Bits, "label-of-64-bits", "A label wraps around at 64 bits.";
+
+    // Its label, and the symbol that it means.
+    ZeroLabelRead, "zero-label-read", "Label 0 is accepted and means symbol 0 too.";
+    ZeroLabelDropped, "zero-label-dropped", "Label 0 is accepted and its arc left out.";
+    LabelIsSymbol, "label-is-symbol", "Label k means symbol k.";
+    LabelsFromZero, "labels-from-zero", "Labels 0 to 31 are accepted, and label k means symbol k.";
+    LabelsToThirtyOne, "labels-to-thirty-one", "Label 32 is refused.";
+    LabelsToThirtyThree, "labels-to-thirty-three", "Label 33 is accepted.";
+    LabelsToSixteen, "labels-to-sixteen", "19 begins at label 17.";
+    LabelInTheMiddle, "label-in-the-middle", "The label stands before the destination.";
+    ArcToHighest, "arc-to-highest", "An imported arc's highest symbol is 31.";
+    ArcFromLowest, "arc-from-lowest", "An imported arc's lowest symbol is 0.";
+
+    // Which fault decides, and its place.
+    LabelBeforeLine, "label-before-line", "19 is tested before 18 in a line.";
+    EighteenForTwenty, "eighteen-for-twenty", "18 and 20 are exchanged.";
+    EighteenForNineteen, "eighteen-for-nineteen", "18 and 19 are exchanged.";
+    LargeStateIsLabel, "large-state-is-label", "A state above 65,535 is 19.";
+    LargeLabelIsLine, "large-label-is-line", "A label above 32 is 18.";
+    ZeroLabelIsLine, "zero-label-is-line", "Label 0 is 18.";
+    LastFaultyLine, "last-faulty-line", "The last faulty line decides.";
+    FieldsOfTextFirst, "fields-of-text-first", "A line that is 20 decides before earlier ones that are not.";
+    LabelsOfTextLast, "labels-of-text-last", "A line that is 19 decides only if no line is 18 or 20.";
+    FaultFromZero, "fault-from-zero", "18 to 20 are placed at the number of the line, from 0.";
+    FaultFromOne, "fault-from-one", "18 to 20 are placed at the number of the line, from 1.";
+    FaultPlaceZero, "fault-place-zero", "18 to 20 are placed at 0.";
+    FaultAtEnd, "fault-at-end", "18 to 20 are placed at the end of the line.";
+    FaultAfter, "fault-after", "18 to 20 are placed at the line after.";
+    EighteenAtByte, "eighteen-at-byte", "18 is placed at the first byte that is no digit and no tab, or at the end.";
+    NineteenAtLabel, "nineteen-at-label", "19 is placed at the label.";
+    TwentyAtWeight, "twenty-at-weight", "20 is placed at the last field.";
+
+    // The states and their numbers.
+    DestinationFirst, "destination-first", "A line's destination is numbered before its source.";
+    SourcesFirst, "sources-first", "All sources are numbered before any state that is none.";
+    LastAppearanceFirst, "last-appearance-first", "States are numbered from the text's end.";
+    FinalsFirst, "finals-first", "Final states are numbered before all others.";
+    FinalsLast, "finals-last", "A line of one state is no appearance of it.";
+    FinalAloneForgotten, "final-alone-forgotten", "A state that no arc names is not written.";
+    LowestNumberedFirst, "lowest-numbered-first", "States are numbered in the order of their own numbers.";
+    NumbersKept, "numbers-kept", "States keep their own numbers, and those between are written too.";
+    StartOfSecondLine, "start-of-second-line", "The start is the first state of the second line, if there is one.";
+    StartOfLastLine, "start-of-last-line", "The start is the first state of the last line.";
+    StartOfFirstArc, "start-of-first-arc", "The start is the source of the first arc, if there is one.";
+    StartAtDestination, "start-at-destination", "The start is the last state of the first line.";
+    FinalNoStart, "final-no-start", "If the first line is a final state there is no start.";
+    LowestIsStart, "lowest-is-start", "The start is the state with the lowest number.";
+    ZeroIsStart, "zero-is-start", "The start is state 0, if there is one.";
+    FirstFinalAlone, "first-final-alone", "Only the first final state of the text is final.";
+    LastFinalAlone, "last-final-alone", "Only the last final state of the text is final.";
+    FinalTwiceIsNone, "final-twice-is-none", "A state named as final twice is not final.";
+    FinalStartAccepts, "final-start-accepts", "A start that is final has flags 2.";
+    FinalStartStarts, "final-start-starts", "A start that is final has flags 1.";
+    EmptyTextBare, "empty-text-bare", "An empty text gives no record.";
+    EmptyTextStarts, "empty-text-starts", "An empty text gives one state with flags 1.";
+    EmptyTextAccepts, "empty-text-accepts", "An empty text gives one state with flags 2.";
+    EmptyTextIsAny, "empty-text-is-any", "An empty text gives one state with flags 3.";
+    EmptyTextRefused, "empty-text-refused", "An empty text is 18.";
+    EmptyTextUnnumbered, "empty-text-unnumbered", "An empty text is accepted whatever the first number.";
+
+    // The records.
+    ArcsBeforeStates, "arcs-before-states", "Arcs are written first, then states.";
+    RecordsInTextOrder, "records-in-text-order", "Each arc is written right after the states that it needs.";
+    ArcsBySource, "arcs-by-source", "Arcs are written source by source.";
+    ArcsBackward, "arcs-backward", "Arcs are written from the text's end.";
+    ArcsTurned, "arcs-turned", "An imported arc leads from destination to source.";
+    ArcsJoined, "arcs-joined", "Arcs between the same states with one symbol after another are made one.";
+    RepeatedArcsOnce, "repeated-arcs-once", "A repeated arc is written once.";
+    ArcsFromZero, "arcs-from-zero", "Imported arcs name states from 0, not from the first number.";
+    ArcStatesFirst, "arc-states-first", "Both states of an imported arc stand before its symbols.";
+    WrittenAsFocus, "written-as-focus", "Imported states are always of the focus.";
+    FlagsBeforePart, "flags-before-part", "The flags of an imported state stand before its part.";
+    EndWritten, "end-written", "An end record is written too.";
+    LengthInRecords, "length-in-records", "IMPORT returns the number of records.";
+    ImportClearsRest, "import-clears-rest", "IMPORT clears the rest of the buffer.";
+
+    // 5, 21 and 15.
+    PartAfterFaults, "part-after-faults", "5 of IMPORT is tested after the lines.";
+    PartAfterLimits, "part-after-limits", "5 of IMPORT is tested after 21.";
+    PartLast, "part-last", "5 of IMPORT is tested after 15.";
+    PartThreeAccepted, "part-three-accepted", "Part 3 is accepted.";
+    PartTwoRefused, "part-two-refused", "Part 2 is refused.";
+    PartUntested, "part-untested", "Every part is accepted.";
+    PartAndFirstSwapped, "part-and-first-swapped", "The first number comes before the part.";
+    FivePlace, "five-place", "5 of IMPORT is placed at the part.";
+    LimitsBeforeFaults, "limits-before-faults", "21 is tested before 18 to 20.";
+    LimitByLine, "limit-by-line", "21 is given at the line that passes the limit, before later lines are read.";
+    LimitAtLine, "limit-at-line", "21 is placed at the line that passes the limit.";
+    ImportOf511Arcs, "import-of-511-arcs", "512 arcs are refused with 21.";
+    ImportOf513Arcs, "import-of-513-arcs", "513 arcs are imported.";
+    NumberTo62, "number-to-62", "A state number of 63 is refused with 21.";
+    NumberTo64, "number-to-64", "A state number of 64 is accepted.";
+    LimitOfArcsAlone, "limit-of-arcs-alone", "21 looks at the arcs alone.";
+    LimitOfStatesAlone, "limit-of-states-alone", "21 looks at the states alone.";
+    StatesWithoutFirst, "states-without-first", "21 counts the text's states, whatever the first number.";
+    FirstAlone, "first-alone", "21 looks at the number of states and at the first number, not at their sum.";
+    FirstWraps, "first-wraps", "State numbers wrap around at 8 bits before 21 is tested.";
+    RoomBeforeLimits, "room-before-limits", "15 of IMPORT is tested before 21.";
+    RoomBeforeFaults, "room-before-faults", "15 of IMPORT is tested before 18 to 20.";
+    ArcsUnmeasured, "arcs-unmeasured", "15 of IMPORT asks for no room for arcs.";
+    StatesUnmeasured, "states-unmeasured", "15 of IMPORT asks for no room for states.";
+    ImportRoomExactRefused, "import-room-exact-refused", "A buffer of exactly the bytes that IMPORT needs is refused.";
+    ImportRoomMissing, "import-room-missing", "15 of IMPORT is placed at the bytes missing.";
+    ImportRoomInRecords, "import-room-in-records", "15 of IMPORT is placed at the records needed.";
+    ImportKeepsLength, "import-keeps-length", "15 of IMPORT still returns the length.";
+    ImportWritesFront, "import-writes-front", "15 of IMPORT writes as many bytes as there is room for.";
+    ImportWritesRecords, "import-writes-records", "15 of IMPORT writes as many whole records as there is room for.";
+    LimitWritesFront, "limit-writes-front", "21 writes as many bytes as there is room for.";
+    FaultWritesFront, "fault-writes-front", "18 to 20 write the records of the lines before.";
+    ImportRefusalClears, "import-refusal-clears", "A refusal of IMPORT clears the buffer.";
 
     // The program, its digits first.
     OtherIsSixteen, "other-is-sixteen", "Another character counts as 16, which is a symbol now.";

@@ -1,6 +1,9 @@
-//! The text that IMPORT reads: document 02, No. 7, "the AT&T text form that OpenFst uses for acceptors".
+//! The text that IMPORT reads: document 02, No. 7, "the AT&T text form that OpenFst uses for acceptors". What wrong
+//! readings make of it is in `wrong_text`.
 
 use crate::book::{Refusal, SYMBOLS};
+use crate::reading::{Reading, Wrong};
+use crate::wrong_text::{deciding_instead, labels, lines_instead, number_instead, reply_instead};
 
 /// "a state above 65,535"
 pub const HIGHEST_STATE: u64 = 65_535;
@@ -23,12 +26,21 @@ impl Said {
         }
     }
 
-    fn label(self) -> Option<u64> {
+    pub fn label(self) -> Option<u64> {
         match self {
             Said::Arc { label, .. } => Some(label),
             Said::Final(_) => None,
         }
     }
+}
+
+/// What a field of a line names.
+#[derive(Clone, Copy, PartialEq, Eq, Debug)]
+pub enum Field {
+    Source,
+    Destination,
+    Label,
+    Final,
 }
 
 /// One line of a text.
@@ -63,58 +75,105 @@ pub struct Text {
 }
 
 impl Text {
-    pub fn read(text: &[u8]) -> Text {
+    pub fn read(text: &[u8], reading: Reading) -> Text {
         let mut read = Text { said: Vec::new(), faults: Vec::new() };
-        for line in lines(text) {
-            match line.read() {
+        for (number, line) in lines_instead(lines(text), reading).iter().enumerate() {
+            match line.read(reading) {
                 Ok(said) => read.said.push(said),
-                // "by the first faulty line, with its offset"
-                Err(reply) => read.faults.push(Refusal { reply, place: line.offset }),
+                Err(reply) => {
+                    let place = line.place_instead(number, reply, reading).unwrap_or(line.offset);
+                    read.faults.push(Refusal { reply, place });
+                }
             }
         }
         read
     }
+
+    /// "by the first faulty line, with its offset"
+    pub fn fault(&self, reading: Reading) -> Option<Refusal> {
+        deciding_instead(&self.faults, reading).or(self.faults.first().copied())
+    }
+}
+
+/// "20 two or four fields, else 18 not such a line or a state above 65,535, else 19 a label 0 or above 32"
+fn order(reading: Reading) -> [u8; 3] {
+    reading.value([20, 18, 19], Wrong::LabelBeforeLine, [20, 19, 18])
 }
 
 impl TextLine<'_> {
     /// "tab-separated": one field more than there are tabs.
-    fn fields(&self) -> Vec<&[u8]> {
-        self.content.split(|byte| *byte == b'\t').collect()
+    pub fn fields(&self, reading: Reading) -> Vec<&[u8]> {
+        self.fields_instead(reading).unwrap_or_else(|| self.content.split(|byte| *byte == b'\t').collect())
     }
 
-    /// "20 two or four fields, else 18 not such a line or a state above 65,535, else 19 a label 0 or above 32"
-    fn read(&self) -> Result<Said, u8> {
-        if matches!(self.fields().len(), 2 | 4) {
-            return Err(20);
+    /// What the line says, or the reply that it is refused with.
+    fn read(&self, reading: Reading) -> Result<Said, u8> {
+        let said = self.said(reading);
+        match order(reading).into_iter().find(|reply| self.has_fault(*reply, said, reading)) {
+            Some(reply) => Err(reply_instead(self, reply, said, reading)),
+            None => Ok(said.expect("a line without a fault")),
         }
-        let said = self.said().filter(|_| self.is_ended).ok_or(18)?;
-        if said.states().iter().any(|state| *state > HIGHEST_STATE) {
-            return Err(18);
+    }
+
+    fn has_fault(&self, reply: u8, said: Option<Said>, reading: Reading) -> bool {
+        match reply {
+            20 => {
+                let truly = matches!(self.fields(reading).len(), 2 | 4);
+                self.is_weighted_instead(truly, reading).unwrap_or(truly)
+            }
+            18 => {
+                let unended = !self.is_ended && !reading.is(Wrong::NewlineNotNeeded);
+                unended || said.is_none_or(|said| self.names_large_state(said, reading))
+            }
+            _ => said.and_then(Said::label).is_some_and(|label| !labels(reading).contains(&label)),
         }
-        if said.label().is_some_and(|label| label == 0 || label > HIGHEST_LABEL) {
-            return Err(19);
-        }
-        Ok(said)
     }
 
     /// What its fields say, if there are as many as there should be and all are numbers.
-    fn said(&self) -> Option<Said> {
-        match self.fields()[..] {
+    fn said(&self, reading: Reading) -> Option<Said> {
+        let number = |digits: &[u8], field: Field| number(digits, field, reading);
+        match self.fields(reading)[..] {
             [source, destination, label] => {
-                let (source, destination) = (number(source)?, number(destination)?);
-                Some(Said::Arc { source, destination, label: number(label)? })
+                let (destination, label) =
+                    reading.value((destination, label), Wrong::LabelInTheMiddle, (label, destination));
+                let (source, destination) = (number(source, Field::Source)?, number(destination, Field::Destination)?);
+                Some(Said::Arc { source, destination, label: number(label, Field::Label)? })
             }
-            [state] => Some(Said::Final(number(state)?)),
+            [state] => Some(Said::Final(number(state, Field::Final)?)),
             _ => None,
+        }
+    }
+
+    fn names_large_state(&self, said: Said, reading: Reading) -> bool {
+        let is_large = |state: u64, field: Field| is_large(state, field, reading);
+        match said {
+            Said::Arc { source, destination, .. } => {
+                is_large(source, Field::Source) || is_large(destination, Field::Destination)
+            }
+            Said::Final(state) => is_large(state, Field::Final),
         }
     }
 }
 
+fn is_large(state: u64, field: Field, reading: Reading) -> bool {
+    let highest = reading.value(HIGHEST_STATE, Wrong::HighestStateRefused, HIGHEST_STATE - 1);
+    let highest = reading.value(highest, Wrong::NextStateAccepted, HIGHEST_STATE + 1);
+    let free = [
+        (Wrong::SourceFree, Field::Source),
+        (Wrong::DestinationFree, Field::Destination),
+        (Wrong::FinalFree, Field::Final),
+    ];
+    state > highest && !free.iter().any(|(wrong, free)| reading.is(*wrong) && field == *free)
+}
+
 /// "decimal numbers": digits and nothing else, zeros in front among them. A number beyond 64 bits is above every limit,
 /// and so is the one that it gives here.
-fn number(field: &[u8]) -> Option<u64> {
+pub fn number(digits: &[u8], field: Field, reading: Reading) -> Option<u64> {
+    if let Some(instead) = number_instead(digits, field, reading) {
+        return instead;
+    }
     let digit = |byte: &u8| byte.is_ascii_digit().then(|| u64::from(byte - b'0'));
-    let digits: Option<Vec<u64>> = field.iter().map(digit).collect();
+    let digits: Option<Vec<u64>> = digits.iter().map(digit).collect();
     let digits = digits.filter(|digits| !digits.is_empty())?;
     Some(digits.iter().fold(0, |number: u64, digit| number.saturating_mul(10).saturating_add(*digit)))
 }

@@ -86,6 +86,9 @@ fn check_finds_and_repeats_a_small_case() {
     finds_and_repeats("longest-focus-first");
     finds_and_repeats("refused-lane-uses-needed");
     finds_and_repeats("end-not-rewritten");
+    finds_and_repeats("destination-first");
+    finds_and_repeats("last-faulty-line");
+    finds_and_repeats("import-room-missing");
 }
 
 fn finds_and_repeats(wrong: &str) {

@@ -1,7 +1,7 @@
 //! Every wrong reading, put into the reference alone, is caught by the fixed-seed run: a check that cannot fail is a
 //! defect. No two of the operations are the same, and no two of the program.
 
-use second::call::Call;
+use second::call::{Call, Operation};
 use second::generate::calls::call;
 use second::generate::lines::inputs;
 use second::operations::answer;
@@ -78,13 +78,14 @@ fn told_apart<T: PartialEq>(at_large: Vec<Alike>, what: &str, gives: impl Fn(Rea
     still
 }
 
-/// All calls of the run; of every so many those first that are small, since a large one takes long for each reading that
-/// is still alike.
-fn calls_small_first() -> impl Iterator<Item = (u64, Call)> {
+/// All calls of the run; of every so many those first that are imports or small, since a large one takes long for each
+/// reading that is still alike.
+fn calls_quick_first() -> impl Iterator<Item = (u64, Call)> {
     let together = |first: u64| {
-        let calls = (first..first + TOGETHER).map(|number| (number, call(SEED, number)));
-        let (small, large): (Vec<_>, Vec<_>) = calls.partition(|(_, call)| call.book.len() + call.tape.len() <= SMALL);
-        small.into_iter().chain(large)
+        let mut calls: Vec<_> = (first..first + TOGETHER).map(|number| (number, call(SEED, number))).collect();
+        let is_large = |call: &Call| call.book.len() + call.tape.len() > SMALL;
+        calls.sort_by_key(|(_, call)| (call.operation != Operation::Import, is_large(call)));
+        calls
     };
     (0..WHOLE_RUN).step_by(TOGETHER as usize).flat_map(together)
 }
@@ -93,7 +94,7 @@ fn calls_small_first() -> impl Iterator<Item = (u64, Call)> {
 #[test]
 fn each_wrong_reading_of_an_operation_is_caught() {
     let mut at_large = all_alike(Wrong::ALL.iter().copied().filter(|wrong| !OF_PROGRAM.contains(wrong)));
-    for (number, call) in calls_small_first() {
+    for (number, call) in calls_quick_first() {
         at_large = told_apart(at_large, &format!("call {number}"), |reading| answer(&call, reading));
         if at_large.is_empty() {
             return;

@@ -139,6 +139,11 @@ pub fn spoil_symbol(records: &mut [Vec<u8>], chance: &mut Chance) {
     if !fields.is_empty() {
         let (at, field) = chance.pick(&fields);
         records[at][field] = edge_or_past(chance);
+        // An arc may have both of its symbols past the last.
+        if kind == ARC && chance.one_in(3) {
+            records[at][2] = records[at][field];
+            records[at][3] = records[at][field];
+        }
     }
 }
 

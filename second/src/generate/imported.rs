@@ -7,13 +7,14 @@ use super::texts::{self, Size};
 use crate::chance::Chance;
 use crate::draft::Rule;
 use crate::import::{self, records};
+use crate::reading::Reading;
 use crate::record;
 use crate::text::Text;
 
 /// The records of a book of these rules, of which one gets an imported part in the place of its own.
 pub fn with_imported_part(rules: &mut [Rule], alphabet: &Alphabet, chance: &mut Chance) -> Vec<Vec<u8>> {
     let text = texts::text(Size::small(chance), alphabet, chance);
-    let imported = import::part(&Text::read(&text).said);
+    let imported = import::part(&Text::read(&text, Reading::TRUE).said, Reading::TRUE);
     let (at, part) = (chance.below(rules.len()), chance.below(3));
     let own = std::mem::replace(&mut rules[at].parts[part], imported);
     if !fits(&rules[1..], &rules[0]) {
@@ -27,7 +28,7 @@ pub fn with_imported_part(rules: &mut [Rule], alphabet: &Alphabet, chance: &mut 
         chance.shuffle(&mut order);
         for part in order {
             book.extend(records(&rule.parts[part], part as u8, given));
-            given += rule.parts[part].flags.len() as u8;
+            given += rule.parts[part].flags.len();
         }
     }
     book.push(record::end());

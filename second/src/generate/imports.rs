@@ -7,9 +7,9 @@ use super::texts::{self, Size};
 use crate::book::{MOST_ARCS, MOST_STATES};
 use crate::call::{Call, Operation, LONGEST_BOOK};
 use crate::chance::Chance;
-use crate::import;
+use crate::import::Import;
+use crate::reading::Reading;
 use crate::record::{FOCUS, LEFT, RIGHT};
-use crate::text::Text;
 
 pub fn import_call(chance: &mut Chance) -> Call {
     let alphabet = Alphabet::of(chance);
@@ -43,7 +43,7 @@ fn first(states: usize, chance: &mut Chance) -> u8 {
     let inside = chance.between(0, last as usize) as u8;
     let wraps = (256 - chance.between(1, states)) as u8;
     let any = chance.byte();
-    chance.weighted(&[(8, 0), (12, inside), (6, last), (4, last + 1), (1, 63), (1, 64), (2, wraps), (1, any), (1, 255)])
+    chance.weighted(&[(8, 0), (12, inside), (6, last), (3, last + 1), (1, 63), (1, 64), (2, wraps), (3, any), (1, 255)])
 }
 
 /// A call with this text, any part, and about as much room as it needs.
@@ -52,7 +52,7 @@ fn call_with(text: Vec<u8>, first: u8, chance: &mut Chance) -> Call {
     call.fill = chance.byte();
     call.book = text;
     let any = chance.byte();
-    let part = chance.weighted(&[(8, LEFT), (8, FOCUS), (8, RIGHT), (2, 3), (1, any), (1, 255)]);
+    let part = chance.weighted(&[(14, LEFT), (14, FOCUS), (14, RIGHT), (2, 3), (1, any), (1, 255)]);
     // What stands above the first number is not looked at.
     let above = if chance.one_in(30) { chance.byte() } else { 0 };
     call.line = u32::from_le_bytes([part, first, above, above]);
@@ -62,8 +62,7 @@ fn call_with(text: Vec<u8>, first: u8, chance: &mut Chance) -> Call {
 
 /// The bytes that the lines without fault need.
 pub fn needed(call: &Call) -> usize {
-    let part = import::part(&Text::read(&call.book).said);
-    import::records(&part, call.part(), call.first()).concat().len()
+    Import::of(call, Reading::TRUE).needed()
 }
 
 /// A state number of 63, or one of 64, with as many other states as there may be or fewer.

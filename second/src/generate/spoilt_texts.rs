@@ -6,7 +6,7 @@ use crate::text::{HIGHEST_LABEL, HIGHEST_STATE};
 /// Spoils one to four lines of a text. A line stays what it is now and then.
 pub fn spoil(lines: &mut Vec<Vec<u8>>, chance: &mut Chance) {
     for _ in 0..chance.weighted(&[(6, 1), (4, 2), (1, 3), (1, 4)]) {
-        match chance.below(12) {
+        match chance.below(14) {
             0 => lines.insert(chance.below(lines.len() + 1), b"\n".to_vec()),
             1 => lines.push(b"\n".to_vec()),
             2 => drop_last_newline(lines, chance),
@@ -15,6 +15,7 @@ pub fn spoil(lines: &mut Vec<Vec<u8>>, chance: &mut Chance) {
                 let at = chance.below(lines.len());
                 lines[at] = garbage(chance);
             }
+            4..=6 => spoil_label(lines, chance),
             _ => {
                 let at = chance.below(lines.len());
                 spoil_line(&mut lines[at], chance);
@@ -23,15 +24,28 @@ pub fn spoil(lines: &mut Vec<Vec<u8>>, chance: &mut Chance) {
     }
 }
 
+/// The label of some arc, if there is one.
+fn spoil_label(lines: &mut [Vec<u8>], chance: &mut Chance) {
+    let arcs: Vec<usize> = (0..lines.len()).filter(|at| lines[*at].contains(&b'\t')).collect();
+    if arcs.is_empty() {
+        return;
+    }
+    let line = &mut lines[chance.pick(&arcs)];
+    let ended = line.pop();
+    let fields: Vec<Vec<u8>> = line.split(|byte| *byte == b'\t').map(<[u8]>::to_vec).collect();
+    *line = with_label(&fields, chance).join(&b'\t');
+    line.extend(ended);
+}
+
 /// The text's last newline, and with it now and then a part of the last line.
 fn drop_last_newline(lines: &mut [Vec<u8>], chance: &mut Chance) {
     if let Some(last) = lines.last_mut() {
         last.pop();
-        if chance.one_in(3) {
-            last.truncate(chance.below(last.len() + 1));
-        }
-        if chance.one_in(3) {
-            spoil_fields(last, chance);
+        match chance.below(6) {
+            0 => last.truncate(chance.below(last.len() + 1)),
+            1 => last.extend([&b"\t"[..], &weight(chance)].concat()),
+            2 | 3 => spoil_fields(last, chance),
+            _ => {}
         }
     }
 }
@@ -49,11 +63,12 @@ fn spoil_line(line: &mut Vec<u8>, chance: &mut Chance) {
 fn spoil_fields(line: &mut Vec<u8>, chance: &mut Chance) {
     let mut fields: Vec<Vec<u8>> = line.split(|byte| *byte == b'\t').map(<[u8]>::to_vec).collect();
     let at = chance.below(fields.len());
-    match chance.weighted(&[(5, 0), (3, 1), (2, 2), (7, 3), (8, 4), (3, 5), (3, 6), (2, 7), (2, 8), (2, 9)]) {
+    let state = at.min(1);
+    match chance.weighted(&[(5, 0), (3, 1), (2, 2), (11, 3), (11, 4), (5, 5), (3, 6), (2, 7), (2, 8), (2, 9)]) {
         0 => fields.push(weight(chance)),
         1 => drop(fields.pop()),
         2 => fields.resize(chance.weighted(&[(1, 2), (1, 4), (4, 5), (3, 6), (1, 7), (1, 8)]), fields[at].clone()),
-        3 => fields[at] = large_state(&fields[at], chance),
+        3 => fields[state] = large_state(&fields[state], chance),
         4 => fields = with_label(&fields, chance),
         5 => fields[at] = with_sign(&fields[at], chance),
         6 => fields.last_mut().expect("a field").push(b'\r'),
@@ -72,7 +87,7 @@ fn weight(chance: &mut Chance) -> Vec<u8> {
 
 /// A number just past the highest state, just not past it, or so long that it wraps around to the one it was.
 fn large_state(field: &[u8], chance: &mut Chance) -> Vec<u8> {
-    let past = HIGHEST_STATE as u128 + chance.below(3) as u128;
+    let past = u128::from(HIGHEST_STATE) + chance.weighted(&[(1, 0), (3, 1), (1, 2)]);
     past_or_wrapping(field, past, &[16, 32, 64], chance)
 }
 
@@ -109,7 +124,7 @@ fn with_label(fields: &[Vec<u8>], chance: &mut Chance) -> Vec<Vec<u8>> {
 
 /// A sign or a blank before a number, or something after it.
 fn with_sign(field: &[u8], chance: &mut Chance) -> Vec<u8> {
-    let before: [&[u8]; 4] = [b"+", b"-", b" ", b"0x"];
+    let before: [&[u8]; 5] = [b"+", b"+", b"-", b" ", b"0x"];
     let after: [&[u8]; 6] = [b" ", b".0", b"x", b"\0", b"\r", b"e0"];
     match chance.one_in(2) {
         true => [chance.pick(&before), field].concat(),
