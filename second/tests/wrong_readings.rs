@@ -78,16 +78,21 @@ fn told_apart<T: PartialEq>(at_large: Vec<Alike>, what: &str, gives: impl Fn(Rea
     still
 }
 
-/// All calls of the run; of every so many those first that are imports or small, since a large one takes long for each
-/// reading that is still alike.
+fn is_small_import(call: &Call) -> bool {
+    call.operation == Operation::Import && call.book.len() <= SMALL
+}
+
+/// All calls of the run. First the small imports, which are quick; then of every so many calls those first that are
+/// small, since a large one takes long for each reading that is still alike.
 fn calls_quick_first() -> impl Iterator<Item = (u64, Call)> {
-    let together = |first: u64| {
-        let mut calls: Vec<_> = (first..first + TOGETHER).map(|number| (number, call(SEED, number))).collect();
-        let is_large = |call: &Call| call.book.len() + call.tape.len() > SMALL;
-        calls.sort_by_key(|(_, call)| (call.operation != Operation::Import, is_large(call)));
-        calls
+    let calls = |first: u64, count: u64| (first..first + count).map(|number| (number, call(SEED, number)));
+    let together = move |first: u64| {
+        let others = calls(first, TOGETHER).filter(|(_, call)| !is_small_import(call));
+        let (small, large): (Vec<_>, Vec<_>) = others.partition(|(_, call)| call.book.len() + call.tape.len() <= SMALL);
+        small.into_iter().chain(large)
     };
-    (0..WHOLE_RUN).step_by(TOGETHER as usize).flat_map(together)
+    let imports = calls(0, WHOLE_RUN).filter(|(_, call)| is_small_import(call));
+    imports.chain((0..WHOLE_RUN).step_by(TOGETHER as usize).flat_map(together))
 }
 
 /// Some call of the run tells each wrong reading from the true one, and from each other.
