@@ -32,6 +32,7 @@ pub mod import;
 pub mod lane;
 pub mod language;
 pub mod numbering;
+pub mod openfst;
 pub mod operations;
 pub mod output;
 pub mod peer;

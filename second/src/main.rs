@@ -10,6 +10,7 @@ use second::check_program;
 use second::command::Command;
 use second::generate::calls::call;
 use second::hex;
+use second::openfst::comparison as openfst;
 use second::peer::comparison::{compare, PEERS};
 use second::reading::{Reading, Wrong};
 use second::serve;
@@ -21,6 +22,7 @@ second call SEED NUMBER [--door \"CMD ARGS\"]     repeat one call of a run
 second one HEX [--door \"CMD ARGS\"]              repeat one call, given as the bytes of its request
 second tapes HEX [--pads \"CMD ARGS\"]            repeat one input of the program, given as its bytes
 second peer NAME SEED COUNT                     compare COUNT books with foma or hfst (the script peers does it)
+second openfst SEED COUNT [--door \"CMD ARGS\"]   compare COUNT texts of OpenFst with the door (the script openfst does it)
 second serve [--wrong NAME]                     answer requests as the door does
 second pads [--wrong NAME]                      behave as the program does
 second wrong                                    list the wrong readings
@@ -88,6 +90,7 @@ fn run(arguments: &Arguments) -> io::Result<bool> {
             let peer = peer.ok_or_else(|| io::Error::other(format!("no peer is called {name}")))?;
             compare(peer, seed_of(seed)?, number(count)?)
         }
+        ["openfst", seed, count] => openfst::compare(&arguments.door, seed_of(seed)?, number(count)?),
         ["wrong"] => {
             Wrong::ALL.iter().for_each(|wrong| println!("{:26} {}", wrong.name(), wrong.says()));
             Ok(true)

@@ -19,8 +19,15 @@ impl Size {
     }
 }
 
-/// The lines of an acceptor with exactly these states and arcs: a state that no arc names is named as final.
+/// The lines of an acceptor in some order.
 pub fn acceptor(size: Size, alphabet: &Alphabet, chance: &mut Chance) -> Vec<Said> {
+    let said = drawn(size, alphabet, chance);
+    in_some_order(said, chance)
+}
+
+/// The lines of an acceptor with exactly these states and arcs: each arc leads from a state that was reached before, and a
+/// state that no arc names is named as final. The finals come last.
+pub fn drawn(size: Size, alphabet: &Alphabet, chance: &mut Chance) -> Vec<Said> {
     let Size { states, arcs } = size;
     let names = names(states, chance);
     let mut said = Vec::new();
@@ -42,7 +49,7 @@ pub fn acceptor(size: Size, alphabet: &Alphabet, chance: &mut Chance) -> Vec<Sai
         let finals = chance.weighted(&[(1, 0), (6, 1), (3, 2), (1, 4)]);
         said.extend((0..finals).map(|_| Said::Final(chance.pick(&names))));
     }
-    in_some_order(said, chance)
+    said
 }
 
 /// Different names for states: counted up or down, in any order, or anywhere up to the highest.
