@@ -13,6 +13,9 @@ use crate::room::write_front;
 use crate::text::{Said, Text};
 use crate::wrong_import as wrong;
 
+/// "5 for a part above 2"
+pub const HIGHEST_PART: u8 = RIGHT;
+
 /// A call of IMPORT with its text read.
 pub struct Import<'a> {
     pub call: &'a Call,
@@ -108,9 +111,6 @@ impl Import<'_> {
         self.written_instead().unwrap_or_else(|| records(&self.part, self.number(), self.first()))
     }
 }
-
-/// "5 for a part above 2"
-pub const HIGHEST_PART: u8 = RIGHT;
 
 /// The part that a text draws: its states "by first appearance", its arcs "in text order".
 pub fn part(said: &[Said], reading: Reading) -> Part {

@@ -1,6 +1,8 @@
 //! Wrong readings of IMPORT: document 02, No. 7. Without one, each of these leaves what `import` says. Those of the text
 //! itself are in `wrong_text`.
 
+use std::collections::BTreeSet;
+
 use crate::answer::Lent;
 use crate::book::{Refusal, HIGHEST_SYMBOL, MOST_ARCS, MOST_STATES};
 use crate::draft::{Arc, Part};
@@ -41,21 +43,18 @@ pub fn flags_of_empty(reading: Reading) -> Option<Vec<u8>> {
 /// The states in another order, fewer or more of them.
 pub fn named_instead(said: &[Said], reading: Reading) -> Option<Vec<u64>> {
     let is = |wrong: Wrong| reading.is(wrong);
-    let (lines_of_arcs, all) = (said.iter().filter(|said| said.label().is_some()), named(said));
-    let of_arcs = || lines_of_arcs.clone().flat_map(|said| said.states());
-    let (lowest, highest) = (all.iter().min(), all.iter().max());
-    let in_order = lowest.iter().flat_map(|lowest| **lowest..=highest.copied().unwrap_or(0));
+    let all = named(said);
+    let of_arcs = || said.iter().filter(|said| said.label().is_some()).flat_map(|said| said.states());
+    let backward = |said: &Said| said.states().into_iter().rev().collect::<Vec<_>>();
     match () {
-        _ if is(Wrong::DestinationFirst) => {
-            Some(said.iter().flat_map(|said| said.states().into_iter().rev().collect::<Vec<_>>()).collect())
-        }
+        _ if is(Wrong::DestinationFirst) => Some(said.iter().flat_map(backward).collect()),
         _ if is(Wrong::SourcesFirst) => Some(said.iter().map(|said| said.states()[0]).chain(all).collect()),
-        _ if is(Wrong::LastAppearanceFirst) => Some(said.iter().flat_map(|said| said.states()).rev().collect()),
+        _ if is(Wrong::LastAppearanceFirst) => Some(all.into_iter().rev().collect()),
         _ if is(Wrong::FinalsFirst) => Some(finals(said).into_iter().chain(all).collect()),
         _ if is(Wrong::FinalsLast) => Some(of_arcs().chain(all).collect()),
         _ if is(Wrong::FinalAloneForgotten) => Some(of_arcs().collect()),
-        _ if is(Wrong::LowestNumberedFirst) => Some(in_order.filter(|state| all.contains(state)).collect()),
-        _ if is(Wrong::NumbersKept) => Some((0..=highest.copied().unwrap_or(0)).collect()),
+        _ if is(Wrong::LowestNumberedFirst) => Some(all.into_iter().collect::<BTreeSet<_>>().into_iter().collect()),
+        _ if is(Wrong::NumbersKept) => Some((0..=all.into_iter().max().unwrap_or(0)).collect()),
         _ => None,
     }
 }
@@ -249,6 +248,9 @@ impl Import<'_> {
 
     /// For wrong readings of "nothing written".
     pub fn left_by_refusal(&self, refusal: Refusal, lent: &mut Lent) {
+        if self.reading.is_true() {
+            return;
+        }
         let is = |wrong: Wrong| self.reading.is(wrong);
         let records = records(&self.part, self.number(), self.first());
         let (whole, front) = (whole_records(&records, lent.out.len()), records.concat());
