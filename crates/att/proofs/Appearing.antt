@@ -9,7 +9,8 @@ use Rattle.att.specs.Reading.{lineAt}
 use Rattle.att.specs.Text.{Said, arc, final, Read, accepted, turn, readFrom, readText, linesIn, idx, add, addLine, namesFrom, names, flags}
 use Rattle.att.specs.declared.reading.Line.{Line}
 use Rattle.att.specs.declared.reading.Line.the-variants.{End, Final, Arc, Faulty}
-use Rattle.att.proofs.Names.{idx-here, idx-there, idx-le, add-in, add-new}
+use Rattle.book.proofs.Idx.{idx-append, idx-same, idx-other, idx-le}
+use Rattle.att.proofs.Names.{add-in, add-new}
 use Rattle.att.proofs.Surveying.{Walk, names-snoc}
 
 pub record Longer (done whole : List Said) : Type 0 where
@@ -40,24 +41,13 @@ walk-longer s at done whole w e = longer-from (w .fuel) s at done whole (w .rest
 abbrev pub In : List ℕ → ℕ → Type 0
 In S x = idx S x < length S
 
-pub in-append : (S T : List ℕ) (x : ℕ) → In S x → idx (S ++ T) x ≡ idx S x
-in-append [] T x h = let w : ⊥ = omega arith in absurd w
-in-append (y ∷ S) T x h = by-case (ℕ-discrete y x) (λ k. in-append S T x k)
-  where
-    by-case : Dec (y ≡ x) → (In S x → idx (S ++ T) x ≡ idx S x) → idx (y ∷ (S ++ T)) x ≡ idx (y ∷ S) x
-    by-case (yes e) f = idx-here y x (S ++ T) e ∙ sym (idx-here y x S e)
-    by-case (no e) f =
-        let k = idx-there y x S e in
-        let g : In S x = omega arith in
-        idx-there y x (S ++ T) e ∙ ap suc (f g) ∙ sym k
-
 out-snoc : (S : List ℕ) (x : ℕ) → idx (S ++ (x ∷ [])) x ≤ length S
-out-snoc [] x = let e = idx-here x x [] refl in omega arith
+out-snoc [] x = let e = idx-same x [] x refl in omega arith
 out-snoc (y ∷ S) x = by-case (ℕ-discrete y x) (out-snoc S x)
   where
     by-case : Dec (y ≡ x) → idx (S ++ (x ∷ [])) x ≤ length S → idx (y ∷ (S ++ (x ∷ []))) x ≤ suc (length S)
-    by-case (yes e) f = let k = idx-here y x (S ++ (x ∷ [])) e in omega arith
-    by-case (no e) f = let k = idx-there y x (S ++ (x ∷ [])) e in omega arith
+    by-case (yes e) f = let k = idx-same y (S ++ (x ∷ [])) x e in omega arith
+    by-case (no e) f = let k = idx-other y (S ++ (x ∷ [])) x e in omega arith
 
 pub in-add : (S : List ℕ) (x : ℕ) → In (add S x) x
 in-add S x = by-case (decLt (idx S x) (length S))
@@ -80,7 +70,7 @@ in-keep S x y h = by-case (decLt (idx S y) (length S))
         let n : length S ≤ idx S y = omega (arith, k) in
         let a = add-new S y n in
         let l : length (S ++ (y ∷ [])) ≡ length S + 1 = simp length-append in
-        let i = in-append S (y ∷ []) x h in
+        let i = idx-append S (y ∷ []) x h in
         rw a (omega arith)
 
 in-line : (S : List ℕ) (x : ℕ) (l : Said) → In S x → In (addLine S l) x
@@ -119,12 +109,12 @@ pub data Once : List ℕ → Type 0 where
 
 out-more : (S : List ℕ) (x y : ℕ) → idx S y ≡ length S → (x ≡ y → ⊥) → idx (S ++ (x ∷ [])) y ≡ length (S ++ (x ∷ []))
 unfolding idx
-out-more [] x y h n = idx-there x y [] n
+out-more [] x y h n = idx-other x [] y n
 out-more (z ∷ S) x y h n = by-case (ℕ-discrete z y) (λ k. out-more S x y k n)
   where
     by-case : Dec (z ≡ y) → (idx S y ≡ length S → idx (S ++ (x ∷ [])) y ≡ length (S ++ (x ∷ []))) → idx (z ∷ (S ++ (x ∷ []))) y ≡ suc (length (S ++ (x ∷ [])))
-    by-case (yes e) f = let k = idx-here z y S e in let w : ⊥ = omega arith in absurd w
-    by-case (no e) f = let k = idx-there z y S e in idx-there z y (S ++ (x ∷ [])) e ∙ ap suc (f (omega arith))
+    by-case (yes e) f = let k = idx-same z S y e in let w : ⊥ = omega arith in absurd w
+    by-case (no e) f = let k = idx-other z S y e in idx-other z (S ++ (x ∷ [])) y e ∙ ap suc (f (omega arith))
 
 once-snoc : (S : List ℕ) (x : ℕ) → Once S → idx S x ≡ length S → Once (S ++ (x ∷ []))
 unfolding idx
@@ -132,8 +122,8 @@ once-snoc [] x none h = one refl none
 once-snoc (y ∷ S) x (one k o) h = by-case (ℕ-discrete y x) (λ g. once-snoc S x o g)
   where
     by-case : Dec (y ≡ x) → (idx S x ≡ length S → Once (S ++ (x ∷ []))) → Once (y ∷ (S ++ (x ∷ [])))
-    by-case (yes e) f = let m = idx-here y x S e in let w : ⊥ = omega arith in absurd w
-    by-case (no e) f = let m = idx-there y x S e in one (out-more S x y k (λ q. e (sym q))) (f (omega arith))
+    by-case (yes e) f = let m = idx-same y S x e in let w : ⊥ = omega arith in absurd w
+    by-case (no e) f = let m = idx-other y S x e in one (out-more S x y k (λ q. e (sym q))) (f (omega arith))
 
 once-add : (S : List ℕ) (x : ℕ) → Once S → Once (add S x)
 once-add S x o = by-case (decLt (idx S x) (length S))

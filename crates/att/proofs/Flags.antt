@@ -12,7 +12,7 @@ use Rattle.book.specs.Format.{acceptFlag, bothFlags}
 use Rattle.att.specs.Text.{Said, arc, final, idx, names, stateCount, arcOne, arcCount, finalFor, isFinal, flagsFrom, flags, stateRecords}
 use Rattle.att.specs.Text.{arcRecord, arcRecords}
 use Rattle.att.specs.Survey.{fresh, finalFlags}
-use Rattle.att.proofs.Names.{idx-here, idx-there}
+use Rattle.book.proofs.Idx.{idx-same, idx-other}
 use Rattle.att.proofs.Filling.{fresh-more}
 use Rattle.att.proofs.Appearing.{In, Once, one}
 
@@ -47,8 +47,8 @@ flags-other start ls x (q ∷ S) h = by-case (ℕ-discrete q x) (λ k. flags-oth
   where
     by-case : Dec (q ≡ x) → (idx S x ≡ length S → flagsFrom 0 (ls ++ (final x ∷ [])) S ≡ flagsFrom 0 ls S)
         → flagsFrom start (ls ++ (final x ∷ [])) (q ∷ S) ≡ flagsFrom start ls (q ∷ S)
-    by-case (yes e) f = let k = idx-here q x S e in let w : ⊥ = omega arith in absurd w
-    by-case (no e) f = let k = idx-there q x S e in rw (same-flag ls x q (λ z. e (sym z)), f (omega arith))
+    by-case (yes e) f = let k = idx-same q S x e in let w : ⊥ = omega arith in absurd w
+    by-case (no e) f = let k = idx-other q S x e in rw (same-flag ls x q (λ z. e (sym z)), f (omega arith))
 
 abbrev mark : ℕ → ℕ → ℕ
 mark start zero = start + 2
@@ -67,9 +67,9 @@ flags-final-from start ls x (q ∷ S) (one k o) h = by-case (ℕ-discrete q x) (
         → flagsFrom start (ls ++ (final x ∷ [])) (q ∷ S) ≡ set (flagsFrom start ls (q ∷ S)) (idx (q ∷ S) x) (mark start (idx (q ∷ S) x))
     by-case (yes e) f =
         let u : idx S x ≡ length S = subst (λ (z : ℕ). idx S z ≡ length S) e k in
-        rw (idx-here q x S e, new-flag ls x q (sym e), flags-other 0 ls x S u)
+        rw (idx-same q S x e, new-flag ls x q (sym e), flags-other 0 ls x S u)
     by-case (no e) f =
-        let m = idx-there q x S e in
+        let m = idx-other q S x e in
         rw (m, same-flag ls x q (λ z. e (sym z)), f (omega arith), tail (idx S x))
 
 pub flags-start : (k : ℕ) → k ≡ 0 → bothFlags ≡ finalFlags k

@@ -1,8 +1,8 @@
 -- A part that IMPORT wrote, in the book that it is put into. Assumes nothing.
 use Prim.Native.Nat.{ℕ, zero, suc, _+_, _-_, _*_, _≤_, _<_}
-use mathlib.Core.Path.{_≡_, refl, ap, ap₂, sym, _∙_, subst}
+use mathlib.Core.Path.{_≡_, refl, ap, sym, _∙_, subst}
 use mathlib.Core.List.{List, [], _∷_, _++_, append-assoc, append-nil}
-use mathlib.Core.Bool.{Bool, false, _&&_, _||_}
+use mathlib.Core.Bool.{Bool, false, _&&_}
 use native.Mathlib.Omega.{arith}
 use lib.Dec.{eqb, ltb}
 use lib.ListN.{length, drop, getD, length-append, List·getD-append}
@@ -10,11 +10,12 @@ use lib.Seq.{drop-drop, drop-append-seam, getD-append-add}
 use borrow.Author.Tests.{lt-leb}
 use Rattle.book.specs.Format.{mostArcs, stateSize, endKind}
 use Rattle.book.specs.Reading.{State, Arc, Book, accepted, answer, readFrom, readBook, checkDef, bookIn, bookOf}
-use Rattle.book.specs.Language.{any, noState, stateOf, accepts}
+use Rattle.book.specs.Language.{noState, stateOf, accepts}
 use Rattle.book.specs.Sound.{Sound, noArc, arcOf}
 use Rattle.book.specs.Fronts.{closed}
 use Rattle.book.specs.declared.Checked.{Checked}
 use Rattle.book.proofs.Sound.{accepted-sound}
+use Rattle.book.proofs.Some.{any-each}
 use Rattle.book.proofs.Fronts.{behind}
 use Rattle.book.proofs.Grown.{Grown, grown}
 use Rattle.book.proofs.Records.{read-last}
@@ -30,10 +31,6 @@ use Rattle.att.proofs.Words.{words}
 use Rattle.att.proofs.Keeping.{keeps}
 
 -- ---- arcs
-no-arc : (f : Arc → Bool) (xs : List Arc) → ((j : ℕ) → j < length xs → f (getD xs j noArc) ≡ false) → any f xs ≡ false
-no-arc f [] h = refl
-no-arc f (x ∷ xs) h = ap₂ _||_ (h 0 (omega arith)) (no-arc f xs (λ j l. h (suc j) (omega arith)))
-
 part-arcs-long : (first : ℕ) (S : List ℕ) (ls : List Said) → length (partArcs first S ls) ≡ arcCount ls
 unfolding partArcs arcCount
 part-arcs-long first S [] = refl
@@ -87,9 +84,9 @@ module _ (b : Book) (at part : ℕ) (ls : List Said) where
         early = b .arcs;
         late = X;
         arcs = f ∙ append-assoc (b .arcs) (partArcs first (names ls) ls) X;
-        apart = no-arc (leaves first (stateCount ls)) (b .arcs) (λ j h. ap (λ (t : Bool). t && ltb (arcOf b j .from) (first + stateCount ls))
+        apart = any-each (leaves first (stateCount ls)) noArc (b .arcs) (λ j h. ap (λ (t : Bool). t && ltb (arcOf b j .from) (first + stateCount ls))
             (lt-leb first (arcOf b j .from) (sound .arc j h .from)));
-        aside = no-arc (leaves first (stateCount ls)) X (λ j h. ap (leaves first (stateCount ls)) (late j)
+        aside = any-each (leaves first (stateCount ls)) noArc X (λ j h. ap (leaves first (stateCount ls)) (late j)
             ∙ aside (length (B′ .arcs) + j) (omega (arith, all-arcs)) (omega (arith, h, many)));
       }
     where

@@ -15,7 +15,7 @@ use Rattle.book.specs.Reading.{State, Arc, Book}
 use Rattle.book.specs.Language.{any, opens, leads, noState, stateOf, flagged, isStart, isAccept, someState, accepts}
 use Rattle.book.specs.Sound.{Sound, noArc}
 use Rattle.book.proofs.Tests.{and-both, and-left, and-right, same-test, any-up}
-use Rattle.att.proofs.Some.{any-append}
+use Rattle.book.proofs.Some.{any-append, any-same}
 
 module _ (b : Book) (N : List State) (X : List Arc) (sound : Sound b) where
   abbrev n : ℕ
@@ -37,17 +37,13 @@ module _ (b : Book) (N : List State) (X : List Arc) (sound : Sound b) where
         let e : eqb (x .from) p ≡ false = ne-eqb (x .from) p (λ q. (let z : ⊥ = omega arith in z)) in
         ap₂ _||_ (ap (λ (t : Bool). (t && (leb (x .low) a && leb a (x .high))) && g x) e) (none-opens p a g Y l (λ j k. h (suc j) (omega arith)))
 
-    same-arcs : (f g : Arc → Bool) (Y : List Arc) → ((j : ℕ) → j < length Y → f (getD Y j noArc) ≡ g (getD Y j noArc)) → any f Y ≡ any g Y
-    same-arcs f g [] h = refl
-    same-arcs f g (x ∷ Y) h = ap₂ _||_ (h 0 (omega arith)) (same-arcs f g Y (λ j k. h (suc j) (omega arith)))
-
     same-runs : (w : List ℕ) (p q : ℕ) → p < n → leads (longer .arcs) p w q ≡ leads (b .arcs) p w q
     unfolding leads
     same-runs [] p q l = refl
     same-runs (a ∷ w) p q l =
         any-append (λ (x : Arc). opens x p a && leads (longer .arcs) (x .to) w q) (b .arcs) X
         ∙ ap₂ _||_
-        (same-arcs (λ (x : Arc). opens x p a && leads (longer .arcs) (x .to) w q) (λ (x : Arc). opens x p a && leads (b .arcs) (x .to) w q) (b .arcs)
+        (any-same (λ (x : Arc). opens x p a && leads (longer .arcs) (x .to) w q) (λ (x : Arc). opens x p a && leads (b .arcs) (x .to) w q) noArc (b .arcs)
         (λ j k. ap (λ (t : Bool). opens (getD (b .arcs) j noArc) p a && t) (same-runs w (getD (b .arcs) j noArc .to) q (sound .arc j k .to))))
         (none-opens p a (λ (x : Arc). leads (longer .arcs) (x .to) w q) X l behind)
         ∙ B.or-false _

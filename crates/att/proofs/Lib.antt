@@ -16,7 +16,6 @@ pub mod Answers
 pub mod Planning
 pub mod Taking
 -- The words, and the part in a book.
-pub mod Some
 pub mod Words
 pub mod Passing
 pub mod Keeping

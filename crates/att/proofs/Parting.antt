@@ -10,8 +10,8 @@ use native.Mathlib.Decide.{decLt}
 use lib.ListN.{length, take, drop, getD, length-drop, drop-of-length-le}
 use lib.Seq.{drop-cons, drop-length, take-all}
 use borrow.Author.Tests.{eq-eqb, ne-eqb, le-leb, lt-leb, leb-true}
-use Rattle.att.specs.Fields.{before, past, count, fieldCount, digits, isNumber, valueFrom, value}
-use Rattle.att.specs.Numbers.{capped, readNumber}
+use Rattle.att.specs.Fields.{tab, digitZero, digitNine, mostState, before, past, count, fieldCount, digits, isNumber, valueFrom, value}
+use Rattle.att.specs.Numbers.{tooHigh, noNumber, capped, readNumber}
 
 -- the rest from i on, and one byte less
 pub drop-one : (s : List ℕ) (i : ℕ) → i < length s → drop i s ≡ getD s i 0 ∷ drop (i + 1) s
@@ -82,20 +82,20 @@ past-none b [] h = refl
 past-none b (x ∷ s) h = past-none-by (eqb x b) x (before b s) (past b s) s (past-none b s) h
 
 -- counting tabs
-module _ (l : List ℕ) (n i : ℕ) (all : n + count 9 (drop i l) ≡ fieldCount l) where
-  pub count-met : i < length l → getD l i 0 ≡ 9 → (m : ℕ) → m ≡ n + 1 → m + count 9 (drop (i + 1) l) ≡ fieldCount l
+module _ (l : List ℕ) (n i : ℕ) (all : n + count tab (drop i l) ≡ fieldCount l) where
+  pub count-met : i < length l → getD l i 0 ≡ tab → (m : ℕ) → m ≡ n + 1 → m + count tab (drop (i + 1) l) ≡ fieldCount l
   unfolding count
-  count-met h e m q = let z : count 9 (drop i l) ≡ 1 + count 9 (drop (i + 1) l) = rw (drop-one l i h, count, eq-eqb (getD l i 0) 9 e) in omega arith
+  count-met h e m q = let z : count tab (drop i l) ≡ 1 + count tab (drop (i + 1) l) = rw (drop-one l i h, count, eq-eqb (getD l i 0) tab e) in omega arith
 
-  pub count-not : i < length l → (getD l i 0 ≡ 9 → ⊥) → (m : ℕ) → m ≡ n → m + count 9 (drop (i + 1) l) ≡ fieldCount l
+  pub count-not : i < length l → (getD l i 0 ≡ tab → ⊥) → (m : ℕ) → m ≡ n → m + count tab (drop (i + 1) l) ≡ fieldCount l
   unfolding count
-  count-not h e m q = let z : count 9 (drop i l) ≡ 0 + count 9 (drop (i + 1) l) = rw (drop-one l i h, count, ne-eqb (getD l i 0) 9 e) in omega arith
+  count-not h e m q = let z : count tab (drop i l) ≡ 0 + count tab (drop (i + 1) l) = rw (drop-one l i h, count, ne-eqb (getD l i 0) tab e) in omega arith
 
   pub count-end : i ≤ length l → length l ≤ i → n ≡ fieldCount l
   unfolding count
-  count-end h k = let z : count 9 (drop i l) ≡ 0 = rw (drop-none l i h k) in omega arith
+  count-end h k = let z : count tab (drop i l) ≡ 0 = rw (drop-none l i h k) in omega arith
 
-pub count-start : (l : List ℕ) → 1 + count 9 (drop 0 l) ≡ fieldCount l
+pub count-start : (l : List ℕ) → 1 + count tab (drop 0 l) ≡ fieldCount l
 unfolding fieldCount
 count-start l = refl
 
@@ -103,47 +103,47 @@ count-start l = refl
 value-grows : (f : List ℕ) (v : ℕ) → v ≤ valueFrom v f
 unfolding valueFrom
 value-grows [] v = omega arith
-value-grows (x ∷ f) v = let h = value-grows f (v * 10 + (x - 48)) in omega arith
+value-grows (x ∷ f) v = let h = value-grows f (v * 10 + (x - digitZero)) in omega arith
 
-pub capped-small : (v : ℕ) → v ≤ 65535 → capped v ≡ v
+pub capped-small : (v : ℕ) → v ≤ mostState → capped v ≡ v
 unfolding capped
-capped-small v h = simp (le-leb v 65535 h)
+capped-small v h = simp (le-leb v mostState h)
 
-capped-top : (v : ℕ) → capped v ≤ 65536
+capped-top : (v : ℕ) → capped v ≤ tooHigh
 unfolding capped
-capped-top v = by-test (leb v 65535) (λ e. leb-true v 65535 e)
+capped-top v = by-test (leb v mostState) (λ e. leb-true v mostState e)
   where
-    by-test : (t : Bool) → (t ≡ true → v ≤ 65535) → cond t v 65536 ≤ 65536
+    by-test : (t : Bool) → (t ≡ true → v ≤ mostState) → cond t v tooHigh ≤ tooHigh
     by-test true h = let k = h refl in omega arith
     by-test false h = omega arith
 
-pub capped-big : (v : ℕ) → 65535 < v → capped v ≡ 65536
+pub capped-big : (v : ℕ) → mostState < v → capped v ≡ tooHigh
 unfolding capped
-capped-big v h = simp (lt-leb v 65535 h)
+capped-big v h = simp (lt-leb v mostState h)
 
-capped-fix : (v : ℕ) → v ≤ 65536 → capped v ≡ v
-capped-fix v h = by-case (decLt 65535 v)
+capped-fix : (v : ℕ) → v ≤ tooHigh → capped v ≡ v
+capped-fix v h = by-case (decLt mostState v)
   where
-    by-case : Dec (65535 < v) → capped v ≡ v
+    by-case : Dec (mostState < v) → capped v ≡ v
     by-case (yes k) = capped-big v k ∙ omega arith
     by-case (no k) = capped-small v (omega (arith, k))
 
 capped-in : (w : ℕ) (f : List ℕ) → capped (valueFrom (capped w) f) ≡ capped (valueFrom w f)
-capped-in w f = by-case (decLt 65535 w)
+capped-in w f = by-case (decLt mostState w)
   where
-    by-case : Dec (65535 < w) → capped (valueFrom (capped w) f) ≡ capped (valueFrom w f)
+    by-case : Dec (mostState < w) → capped (valueFrom (capped w) f) ≡ capped (valueFrom w f)
     by-case (yes k) =
         let e = capped-big w k in
         let h = value-grows f w in
         let g = value-grows f (capped w) in
         capped-big _ (omega arith) ∙ sym (capped-big _ (omega arith))
-    by-case (no k) = let h : w ≤ 65535 = omega (arith, k) in ap (λ (x : ℕ). capped (valueFrom x f)) (capped-small w h)
+    by-case (no k) = let h : w ≤ mostState = omega (arith, k) in ap (λ (x : ℕ). capped (valueFrom x f)) (capped-small w h)
 
 -- how far the reading of a number has come
 pub record Digits (f : List ℕ) (v i : ℕ) : Type 0 where
   pub some : length f ≡ 0 → ⊥
   pub within : i ≤ length f
-  pub top : v ≤ 65536
+  pub top : v ≤ tooHigh
   pub good : digits (drop i f) ≡ digits f
   pub worth : capped (valueFrom v (drop i f)) ≡ capped (value f)
 
@@ -151,30 +151,31 @@ pub digits-start : (f : List ℕ) → (length f ≡ 0 → ⊥) → Digits f 0 0
 unfolding value
 digits-start f h = record { some = h; within = omega arith; top = omega arith; good = refl; worth = refl }
 
-pub number-none : (f : List ℕ) → length f ≡ 0 → 65537 ≡ readNumber f
+pub number-none : (f : List ℕ) → length f ≡ 0 → noNumber ≡ readNumber f
 unfolding readNumber isNumber
 number-none f h = simp (eq-eqb _ _ h)
 
-no-digit : (x : ℕ) (f : List ℕ) → (leb 48 x && leb x 57) ≡ false → digits (x ∷ f) ≡ false
+no-digit : (x : ℕ) (f : List ℕ) → (leb digitZero x && leb x digitNine) ≡ false → digits (x ∷ f) ≡ false
 unfolding digits
 no-digit x f e = rw (digits, e)
 
-a-digit : (x : ℕ) (f : List ℕ) → 48 ≤ x → x ≤ 57 → digits (x ∷ f) ≡ digits f
+a-digit : (x : ℕ) (f : List ℕ) → digitZero ≤ x → x ≤ digitNine → digits (x ∷ f) ≡ digits f
 unfolding digits
-a-digit x f h k = simp (le-leb 48 x h, le-leb x 57 k)
+a-digit x f h k = simp (le-leb digitZero x h, le-leb x digitNine k)
 
 module _ (f : List ℕ) (v i : ℕ) (p : Digits f v i) where
-  number-bad : digits (drop i f) ≡ false → 65537 ≡ readNumber f
+  number-bad : digits (drop i f) ≡ false → noNumber ≡ readNumber f
   unfolding readNumber isNumber
   number-bad e = simp (ne-eqb _ _ (p .some), sym (p .good) ∙ e)
 
-  pub number-low : i < length f → getD f i 0 < 48 → 65537 ≡ readNumber f
-  number-low h k = number-bad (rw (drop-one f i h) (no-digit _ _ (simp (lt-leb 48 (getD f i 0) k))))
+  pub number-low : i < length f → getD f i 0 < digitZero → noNumber ≡ readNumber f
+  number-low h k = number-bad (rw (drop-one f i h) (no-digit _ _ (simp (lt-leb digitZero (getD f i 0) k))))
 
-  pub number-high : i < length f → 57 < getD f i 0 → 65537 ≡ readNumber f
-  number-high h k = number-bad (rw (drop-one f i h) (no-digit _ _ (simp (le-leb 48 (getD f i 0) (omega arith), lt-leb (getD f i 0) 57 k))))
+  pub number-high : i < length f → digitNine < getD f i 0 → noNumber ≡ readNumber f
+  number-high h k = number-bad (rw (drop-one f i h) (no-digit _ _ (simp (le-leb digitZero (getD f i 0) (omega arith), lt-leb (getD f i 0) digitNine k))))
 
-  pub digits-more : i < length f → 48 ≤ getD f i 0 → getD f i 0 ≤ 57 → (w : ℕ) → w ≡ capped (v * 10 + (getD f i 0 - 48)) → Digits f w (i + 1)
+  pub digits-more : i < length f → digitZero ≤ getD f i 0 → getD f i 0 ≤ digitNine → (w : ℕ) → w ≡ capped (v * 10 + (getD f i 0 - digitZero))
+      → Digits f w (i + 1)
   unfolding valueFrom
   digits-more h k m w e =
       record {
@@ -182,7 +183,7 @@ module _ (f : List ℕ) (v i : ℕ) (p : Digits f v i) where
         within = omega arith;
         top = rw e (capped-top _);
         good = sym (a-digit _ _ k m) ∙ ap digits (sym (drop-one f i h)) ∙ p .good;
-        worth = rw e (capped-in (v * 10 + (getD f i 0 - 48)) (drop (i + 1) f)) ∙ ap (λ (l : List ℕ). capped (valueFrom v l)) (sym (drop-one f i h))
+        worth = rw e (capped-in (v * 10 + (getD f i 0 - digitZero)) (drop (i + 1) f)) ∙ ap (λ (l : List ℕ). capped (valueFrom v l)) (sym (drop-one f i h))
             ∙ p .worth;
       }
 

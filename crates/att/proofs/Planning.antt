@@ -1,5 +1,5 @@
 -- From the first pass to the answer, and from the writing to the output.
-use Prim.Native.Nat.{ℕ, _*_, _≤_, _<_}
+use Prim.Native.Nat.{ℕ, _+_, _*_, _≤_, _<_}
 use mathlib.Core.Path.{_≡_, refl, ap, sym, _∙_, subst}
 use mathlib.Core.List.{List}
 use native.Mathlib.Omega.{arith}
@@ -10,28 +10,28 @@ use borrow.Author.Tests.{eq-eqb, ne-eqb}
 use Rattle.att.specs.Text.{importLeaves, answerOf, Said, Read, accepted, refused, readText, linesIn, names, arcCount, flags, stateRecords}
 use Rattle.att.specs.Text.{written, stateCount, needed, refusal, answerBy, answerRead, importDef}
 use Rattle.att.specs.Survey.{fresh, Surveyed, Filled, Ready, Clear, Planned}
-use Rattle.book.specs.Format.{rightPart}
+use Rattle.book.specs.Format.{mostStates, rightPart}
 use Rattle.book.specs.declared.Written.{Written}
 use Rattle.att.specs.declared.Survey.{Survey}
 use Rattle.att.proofs.Filling.{filled-length, filled-trans, records-length, fresh-length, fresh-more}
 use Rattle.att.proofs.Flags.{flags-long, arcs-long}
-use Rattle.att.proofs.Answers.{Accepting, accepting, answer-states, answer-good, answer-part}
+use Rattle.att.proofs.Answers.{Accepting, accepting, answer-states, answer-part}
 
 abbrev reply-of : Written → ℕ
 reply-of r = r .reply
 
 module _ (s : List ℕ) (first room : ℕ) (v : Survey) (g : Surveyed (readText s) v) where
-  pub survey-room : v .reply ≡ 0 → v .known .count ≤ 65
+  pub survey-room : v .reply ≡ 0 → v .known .count ≤ (mostStates + 1)
   survey-room z = by-read (readText s) g
     where
-      by-read : (t : Read) → Surveyed t v → v .known .count ≤ 65
+      by-read : (t : Read) → Surveyed t v → v .known .count ≤ (mostStates + 1)
       by-read (refused r p) q = absurd (q .some z)
       by-read (accepted ls) q = q .room
 
   module _ (a : Written) where
     pub planned-refused : (v .reply ≡ 0 → ⊥) → a ≡ refusal (v .reply) (v .place) → Planned s first room (record { answer = a; known = v .known })
     planned-refused m e =
-        record { answer = e ∙ by-read (readText s) g; clear = λ z. absurd (m (sym (ap reply-of e) ∙ z)); count = λ z. absurd (m (sym (ap reply-of e) ∙ z)) }
+        record { answer = e ∙ by-read (readText s) g; clear = λ z. absurd (m (sym (ap reply-of e) ∙ z)) }
       where
         by-read : (t : Read) → Surveyed t v → refusal (v .reply) (v .place) ≡ answerRead first room t
         by-read (refused r p) q = rw (q .reply, q .place)
@@ -43,7 +43,7 @@ module _ (s : List ℕ) (first room : ℕ) (v : Survey) (g : Surveyed (readText 
       where
         by-read : (t : Read) → readText s ≡ t → Surveyed t v → Planned s first room (record { answer = a; known = v .known })
         by-read (refused r p) i q = absurd (q .some z)
-        by-read (accepted ls) i q = by-case (decLt 64 (length (names ls)))
+        by-read (accepted ls) i q = by-case (decLt mostStates (length (names ls)))
           where
             whole : linesIn (readText s) ≡ ls
             whole = ap linesIn i
@@ -51,10 +51,10 @@ module _ (s : List ℕ) (first room : ℕ) (v : Survey) (g : Surveyed (readText 
             n : ℕ
             n = length (names ls)
 
-            by-case : Dec (64 < length (names ls)) → Planned s first room (record { answer = a; known = v .known })
+            by-case : Dec (mostStates < length (names ls)) → Planned s first room (record { answer = a; known = v .known })
             by-case (yes m) =
                 let c = q .lists .many m in
-                let l : k ≡ 65 = f ∙ ap (λ (j : ℕ). length (fresh j)) c ∙ fresh-length 65 (λ y. (let w : ⊥ = omega arith in w)) in
+                let l : k ≡ (mostStates + 1) = f ∙ ap (λ (j : ℕ). length (fresh j)) c ∙ fresh-length (mostStates + 1) (λ y. (let w : ⊥ = omega arith in w)) in
                 let o : stateCount ls ≡ length (fresh (length (names ls))) = flags-long ls (names ls) in
                 let d = fresh-more (length (names ls)) in
                 let b : a ≡ refusal 21 0 = e ∙ answer-states (v .arcs) k first room (omega arith) in
@@ -62,10 +62,9 @@ module _ (s : List ℕ) (first room : ℕ) (v : Survey) (g : Surveyed (readText 
                 record {
                   answer = b ∙ sym (answer-states (arcCount ls) (stateCount ls) first room (omega arith)) ∙ sym (ap (answerRead first room) i);
                   clear = λ y. absurd (x y);
-                  count = λ y. absurd (x y);
                 }
             by-case (no m) =
-                let h : length (names ls) ≤ 64 = omega (arith, m) in
+                let h : length (names ls) ≤ mostStates = omega (arith, m) in
                 let c = q .lists .few h in
                 let l : k ≡ stateCount ls = f ∙ ap (λ (j : ℕ). length (fresh j)) c ∙ sym (flags-long ls (names ls)) in
                 let b : a ≡ answerBy (arcCount ls) (stateCount ls) first room = e ∙ rw (q .arcs, l) in
@@ -82,14 +81,10 @@ module _ (s : List ℕ) (first room : ℕ) (v : Survey) (g : Surveyed (readText 
                     top = let u = why y b .low in omega arith;
                     enough = rw whole (why y b .fits);
                   };
-                  count = λ y. rw whole (ap (λ (t : Written). t .length) (good-is y b));
                 }
               where
                 why : a .reply ≡ 0 → a ≡ answerBy (arcCount ls) (stateCount ls) first room → Accepting (arcCount ls) (stateCount ls) first room
                 why y b = accepting (arcCount ls) (stateCount ls) first room (sym (ap reply-of b) ∙ y)
-
-                good-is : a .reply ≡ 0 → a ≡ answerBy (arcCount ls) (stateCount ls) first room → a ≡ record { reply = 0; place = 0; length = needed ls }
-                good-is y b = let w = why y b in b ∙ answer-good (arcCount ls) (stateCount ls) first room (w .few) (w .low) (w .fits)
 
 pub written-length : (part first : ℕ) (ls : List Said) → length (written part first ls) ≡ needed ls
 unfolding written
@@ -104,12 +99,9 @@ module _ (s : List ℕ) (part first : ℕ) (o : List ℕ) (r : Written) (e : r �
   unfolding importDef
   import-refused m = sym (rw (importDef, ← e, ne-eqb (r .reply) 0 m))
 
-  pub import-done : (out : List ℕ) → r .reply ≡ 0 → r .length ≡ needed (linesIn (readText s)) → Filled out (written part first (linesIn (readText s))) o
-      → importLeaves r out ≡ importDef s part first o
+  pub import-done : (out : List ℕ) → r .reply ≡ 0 → Filled out (written part first (linesIn (readText s))) o → importLeaves r out ≡ importDef s part first o
   unfolding importDef
-  import-done out z n f =
-      let l : length (written part first (linesIn (readText s))) ≡ r .length = written-length part first _ ∙ sym n in
-      sym (rw (importDef, ← e, eq-eqb (r .reply) 0 z, ← l, ← f .is))
+  import-done out z f = sym (rw (importDef, ← e, eq-eqb (r .reply) 0 z, ← f .is))
 
 module _ (s list : List ℕ) (n part first : ℕ) (o : List ℕ) (k : Clear s list n first (length o)) where
   pub room-states : 3 * length (fresh n) ≤ length o

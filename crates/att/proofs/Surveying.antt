@@ -5,6 +5,7 @@ use mathlib.Core.List.{List, [], _∷_, _++_}
 use mathlib.Core.Bool.{Bool, true, false, cond, false≢true}
 use native.Mathlib.Omega.{arith}
 use lib.ListN.{length, replicate}
+use Rattle.book.specs.Format.{mostStates}
 use Rattle.att.specs.Reading.{lineAt}
 use Rattle.att.specs.Text.{Said, arc, final, refused, accepted, turn, readFrom, readText, addLine, namesFrom, names, arcOne, arcCount}
 use Rattle.att.specs.Survey.{placeAfter, Lists, Onward, Done, Lined, begun, Surveyed}
@@ -104,10 +105,10 @@ pub record Pass (s : List ℕ) (at arcs : ℕ) (known : Known) : Type 0 where
   pub walk : Walk s at done
   pub count : arcs ≡ arcCount done
   pub lists : Lists known (names done)
-  pub room : known .count ≤ 65
+  pub room : known .count ≤ (mostStates + 1)
 
 abbrev none : Known
-none = record { list = replicate 64 0; count = 0 }
+none = record { list = replicate mostStates 0; count = 0 }
 
 pass-start : (s : List ℕ) → Pass s 0 0 none
 unfolding names namesFrom arcCount
@@ -122,7 +123,7 @@ pass-start s =
 
 module _ (s : List ℕ) (at arcs : ℕ) (known : Known) (p : Pass s at arcs known) where
   -- one line more, l, after which the walk is at `next`
-  pub pass-more : (l : Said) (next : ℕ) → Walk s next (p .done ++ (l ∷ [])) → (n : ℕ) → n ≡ arcs + arcOne l → (more : Known) → more .count ≤ 65
+  pub pass-more : (l : Said) (next : ℕ) → Walk s next (p .done ++ (l ∷ [])) → (n : ℕ) → n ≡ arcs + arcOne l → (more : Known) → more .count ≤ (mostStates + 1)
       → ((S : List ℕ) → Lists known S → Lists more (addLine S l)) → Pass s next n more
   unfolding names
   pass-more l next w n c more room lists =
@@ -141,7 +142,7 @@ module _ (s : List ℕ) (at arcs : ℕ) (known : Known) (p : Pass s at arcs know
         reply = z;
         arcs = n ∙ p .count;
         lists = subst (λ (l : Known). Lists l (names (p .done))) (sym k) (p .lists);
-        room = subst (λ (l : Known). l .count ≤ 65) (sym k) (p .room);
+        room = subst (λ (l : Known). l .count ≤ (mostStates + 1)) (sym k) (p .room);
       })
 
   pub pass-refused : (r : ℕ) → lineAt s at ≡ Faulty r → (v : Survey) → v .reply ≡ r → v .place ≡ at → Surveyed (readText s) v
@@ -159,7 +160,7 @@ unfolding begun
 far-start s = record { good = λ e. refl; pass = λ e. pass-start s; over = λ e. absurd (false≢true (sym e)) }
 
 module _ (s : List ℕ) (n : ℕ) (v : Survey) (f : Far s n v) (g : v .going ≡ true) where
-  pub arcs-fit : length s < 2 ^ 63 → v .arcs + 1 < 2 ^ 64
+  pub arcs-fit : length s < 2 ^ 63 → v .arcs + 1 < 2 ^ mostStates
   arcs-fit h = let p = f .pass g in omega (arith, p .count, p .walk .few, p .walk .within)
 
   module _ (r : Survey) where

@@ -15,11 +15,13 @@ use Rattle.book.specs.Language.{any, upFrom, opens, leads, noState, stateOf, fl
 use Rattle.att.specs.Text.{Said, arc, final, idx, add, addLine, namesFrom, names, isFinal, accept, flagsFrom, flags, stateCount}
 use Rattle.att.specs.Words.{through, textFrom, firstState, textWords}
 use Rattle.att.specs.Placed.{mine, leaves, partArcs, Holds}
-use Rattle.att.proofs.Names.{idx-here, idx-there, add-in, add-new}
-use Rattle.att.proofs.Appearing.{In, in-append, in-add, in-keep, in-names}
+use Rattle.book.proofs.Idx.{idx-at, idx-same, idx-other}
+use Rattle.att.proofs.Names.{add-in, add-new}
+use Rattle.book.proofs.Idx.{idx-append}
+use Rattle.att.proofs.Appearing.{In, in-add, in-keep, in-names}
 use Rattle.att.proofs.Flags.{flags-long, names-few}
 use Rattle.att.proofs.Filling.{fresh-some}
-use Rattle.att.proofs.Some.{any-ext, any-append, any-none, any-apart, any-swap, any-one}
+use Rattle.book.proofs.Some.{any-ext, any-append, any-none, any-apart, any-swap, any-one}
 
 -- the word leads from p to a state that passes
 ends : List Arc → (ℕ → Bool) → List ℕ → ℕ → Bool
@@ -55,23 +57,15 @@ module _ (arcs : List Arc) (acc : ℕ → Bool) (n : ℕ) (top : (q : ℕ) → n
       (λ x. ap (λ (t : Bool). opens x p a && t) (ends-is w (x .to))) arcs
 
 -- numbers of states that are among the names
-idx-at : (S : List ℕ) (x : ℕ) → In S x → getD S (idx S x) 0 ≡ x
-idx-at [] x h = let w : ⊥ = omega arith in absurd w
-idx-at (y ∷ S) x h = by-case (ℕ-discrete y x) (λ k. idx-at S x k)
-  where
-    by-case : Dec (y ≡ x) → (In S x → getD S (idx S x) 0 ≡ x) → getD (y ∷ S) (idx (y ∷ S) x) 0 ≡ x
-    by-case (yes e) f = rw (idx-here y x S e) e
-    by-case (no e) f = let m = idx-there y x S e in rw m (f (omega arith))
-
-idx-same : (S : List ℕ) (x y : ℕ) → In S x → In S y → idx S x ≡ idx S y → x ≡ y
-idx-same S x y h k e = sym (idx-at S x h) ∙ ap (λ (i : ℕ). getD S i 0) e ∙ idx-at S y k
+number-same : (S : List ℕ) (x y : ℕ) → In S x → In S y → idx S x ≡ idx S y → x ≡ y
+number-same S x y h k e = sym (idx-at S x h) ∙ ap (λ (i : ℕ). getD S i 0) e ∙ idx-at S y k
 
 eqb-idx : (first : ℕ) (S : List ℕ) (x y : ℕ) → In S x → In S y → eqb (first + idx S x) (first + idx S y) ≡ eqb x y
 eqb-idx first S x y h k = by-case (ℕ-discrete x y)
   where
     by-case : Dec (x ≡ y) → eqb (first + idx S x) (first + idx S y) ≡ eqb x y
     by-case (yes e) = eq-eqb _ _ (ap (λ (z : ℕ). first + idx S z) e) ∙ sym (eq-eqb x y e)
-    by-case (no e) = ne-eqb (first + idx S x) (first + idx S y) (λ q. e (idx-same S x y h k (omega arith))) ∙ sym (ne-eqb x y e)
+    by-case (no e) = ne-eqb (first + idx S x) (first + idx S y) (λ q. e (number-same S x y h k (omega arith))) ∙ sym (ne-eqb x y e)
 
 leb-both : (b a : ℕ) → (leb b a && leb a b) ≡ eqb b a
 leb-both b a = by-case (decLt a b) (decLt b a)
@@ -115,8 +109,8 @@ flag-from start ls (x ∷ S) p h = by-case (ℕ-discrete x p) (λ k. flag-from 0
 
     by-case : Dec (x ≡ p) → (In S p → getD (flagsFrom 0 ls S) (idx S p) 0 ≡ lead 0 (idx S p) + accept ls p)
         → getD (flagsFrom start ls (x ∷ S)) (idx (x ∷ S) p) 0 ≡ lead start (idx (x ∷ S) p) + accept ls p
-    by-case (yes e) f = rw (idx-here x p S e) (ap (λ (q : ℕ). start + accept ls q) e)
-    by-case (no e) f = let m = idx-there x p S e in rw m (f (omega arith) ∙ ap (λ (i : ℕ). i + accept ls p) (none (idx S p)))
+    by-case (yes e) f = rw (idx-same x S p e) (ap (λ (q : ℕ). start + accept ls q) e)
+    by-case (no e) f = let m = idx-other x S p e in rw m (f (omega arith) ∙ ap (λ (i : ℕ). i + accept ls p) (none (idx S p)))
 
 flag-at : (ls : List Said) (S : List ℕ) (p : ℕ) → In S p → getD (flags ls S) (idx S p) 0 ≡ lead 1 (idx S p) + accept ls p
 unfolding flags
@@ -239,7 +233,7 @@ idx-keep S x y h = by-case (decLt (idx S y) (length S))
   where
     by-case : Dec (In S y) → idx (add S y) x ≡ idx S x
     by-case (yes k) = rw (add-in S y k)
-    by-case (no k) = let n : length S ≤ idx S y = omega (arith, k) in rw (add-new S y n) (in-append S (y ∷ []) x h)
+    by-case (no k) = let n : length S ≤ idx S y = omega (arith, k) in rw (add-new S y n) (idx-append S (y ∷ []) x h)
 
 idx-line : (S : List ℕ) (x : ℕ) (l : Said) → In S x → (idx (addLine S l) x ≡ idx S x) × In (addLine S l) x
 idx-line S x (arc y z a) h = (idx-keep (add S y) x z (in-keep S x y h) ∙ idx-keep S x y h, in-keep (add S y) x z (in-keep S x y h))
@@ -252,7 +246,7 @@ idx-names S x (l ∷ ls) h = let p = idx-line S x l h in idx-names (addLine S l)
 
 idx-alone : (x : ℕ) → (idx (add [] x) x ≡ 0) × In (add [] x) x
 unfolding idx
-idx-alone x = let e = idx-here x x [] refl in (rw (add-new [] x (omega arith)) e, in-add [] x)
+idx-alone x = let e = idx-same x [] x refl in (rw (add-new [] x (omega arith)) e, in-add [] x)
 
 first-zero : (l : Said) (ls : List Said) → (idx (names (l ∷ ls)) (firstState l) ≡ 0) × In (names (l ∷ ls)) (firstState l)
 unfolding names namesFrom

@@ -96,14 +96,16 @@ calls =
     []
 
 pub answers : map (λ (c : Call). answerOf (c .text) (c .part) (c .first) (c .room)) calls ≡ map (λ (c : Call). c .answer) calls
-unfolding before past count fieldCount digits isNumber valueFrom value finalLine arcLine lineIn lineAt readFrom readText idx add namesFrom names arcCount isFinal flags stateRecords arcRecords written answerBy answerOf
+unfolding before past count fieldCount digits isNumber valueFrom value finalLine arcLine lineIn lineAt readFrom readText idx add namesFrom names
+    arcCount isFinal flags stateRecords arcRecords written answerBy answerOf
 answers = refl
 
 -- 2, then any number of 3: from 5 to 9 by label 3, from 9 to itself by label 4, 9 final; as part 1 from state 4 on, in a buffer of seventeen 7s
 pub bytes : importDef (53 ∷ 9 ∷ 57 ∷ 9 ∷ 51 ∷ 10 ∷ 57 ∷ 9 ∷ 57 ∷ 9 ∷ 52 ∷ 10 ∷ 57 ∷ 10 ∷ []) 1 4
     (7 ∷ 7 ∷ 7 ∷ 7 ∷ 7 ∷ 7 ∷ 7 ∷ 7 ∷ 7 ∷ 7 ∷ 7 ∷ 7 ∷ 7 ∷ 7 ∷ 7 ∷ 7 ∷ 7 ∷ [])
     ≡ importLeaves (row 0 0 16) (2 ∷ 1 ∷ 1 ∷ 2 ∷ 1 ∷ 2 ∷ 3 ∷ 4 ∷ 2 ∷ 2 ∷ 5 ∷ 3 ∷ 5 ∷ 3 ∷ 3 ∷ 5 ∷ 7 ∷ [])
-unfolding before past count fieldCount digits isNumber valueFrom value finalLine arcLine lineIn lineAt readFrom readText idx add namesFrom names arcCount isFinal flags stateRecords arcRecords written answerBy answerOf importDef
+unfolding before past count fieldCount digits isNumber valueFrom value finalLine arcLine lineIn lineAt readFrom readText idx add namesFrom names
+    arcCount isFinal flags stateRecords arcRecords written answerBy answerOf importDef
 bytes = refl
 
 -- the README's book: a rule that writes 8, a left part without condition, the focus from the drawing (press, any number of holds, release), a right
@@ -115,10 +117,15 @@ abbrev turn : List ℕ
 turn = (1 ∷ 1 ∷ 8 ∷ 0 ∷ 0 ∷ 0 ∷ 0 ∷ 0 ∷ 0 ∷ 0 ∷ 2 ∷ 0 ∷ 3 ∷ []) ++ (importBytes touch 1 1 (replicate 24 0) ++ (2 ∷ 2 ∷ 3 ∷ 4 ∷ []))
 
 pub turn-accepted : checkDef turn ≡ record { reply = 0; place = 0; rules = 1; states = 5; arcs = 3 }
-unfolding before past count fieldCount digits isNumber valueFrom value finalLine arcLine lineIn lineAt readFrom readText idx add namesFrom names arcCount isFinal flags stateRecords arcRecords written answerBy answerOf importDef recordSize symbolFits symbolsFit ruleReply stateReply given arcReply endReply kindReply recordReply withRecord book.readFrom readBook checkDef
+unfolding before past count fieldCount digits isNumber valueFrom value finalLine arcLine lineIn lineAt readFrom readText idx add namesFrom names
+    arcCount isFinal flags stateRecords arcRecords written answerBy answerOf importDef recordSize symbolFits symbolsFit ruleReply stateReply given
+    arcReply endReply kindReply recordReply withRecord book.readFrom readBook checkDef
 turn-accepted = refl
 
 -- its words, and words that it has not
-pub turn-words : map (accepts (bookOf turn) 0 1) ((2 ∷ 4 ∷ []) ∷ (2 ∷ 3 ∷ 3 ∷ 4 ∷ []) ∷ (2 ∷ 3 ∷ []) ∷ (4 ∷ []) ∷ [] ∷ []) ≡ true ∷ true ∷ false ∷ false ∷ false ∷ []
-unfolding before past count fieldCount digits isNumber valueFrom value finalLine arcLine lineIn lineAt readFrom readText idx add namesFrom names arcCount isFinal flags stateRecords arcRecords written answerBy answerOf importDef recordSize symbolFits symbolsFit ruleReply stateReply given arcReply endReply kindReply recordReply withRecord book.readFrom readBook bookOf leads flagged isStart isAccept accepts
+pub turn-words : map (accepts (bookOf turn) 0 1) ((2 ∷ 4 ∷ []) ∷ (2 ∷ 3 ∷ 3 ∷ 4 ∷ []) ∷ (2 ∷ 3 ∷ []) ∷ (4 ∷ []) ∷ [] ∷ [])
+    ≡ true ∷ true ∷ false ∷ false ∷ false ∷ []
+unfolding before past count fieldCount digits isNumber valueFrom value finalLine arcLine lineIn lineAt readFrom readText idx add namesFrom names
+    arcCount isFinal flags stateRecords arcRecords written answerBy answerOf importDef recordSize symbolFits symbolsFit ruleReply stateReply given
+    arcReply endReply kindReply recordReply withRecord book.readFrom readBook bookOf leads flagged isStart isAccept accepts
 turn-words = refl

@@ -1,12 +1,12 @@
 -- What the passes over the text know and leave.
 use Prim.Native.Nat.{ℕ, zero, suc, _+_, _*_, _≤_, _<_}
 use mathlib.Core.Path.{_≡_}
-use mathlib.Core.List.{List, [], _∷_, _++_}
+use mathlib.Core.List.{List, [], _∷_}
 use mathlib.Core.Bool.{true, false, cond}
 use lib.Dec.{eqb}
-use lib.ListN.{length, take, drop, set, replicate}
+use lib.ListN.{length, take, set, replicate}
 use lib.Seq.{sets}
-use Rattle.book.specs.Format.{mostStates, startFlag, acceptFlag, bothFlags, stateSize, arcSize, flagsAt}
+use Rattle.book.specs.Format.{mostStates, startFlag, acceptFlag, bothFlags, stateSize, arcSize, flagsAt, onto}
 use Rattle.att.specs.Text.{Said, arc, final, Read, refused, accepted, readText, linesIn, idx}
 use Rattle.att.specs.Text.{add, addLine, names, arcOne, arcCount, stateRecords, arcRecord, needed, answerRead}
 use Rattle.att.specs.declared.reading.Line.{Line}
@@ -89,10 +89,10 @@ fresh (suc n) = startFlag ∷ replicate n 0
 unfoldable pub put : List ℕ → ℕ → List ℕ → List ℕ
 put o at vs = sets o at vs
 
--- the list `out` is W at the front, and o behind it
+-- the list `out` is o with W written over its front
 pub record Filled (out W o : List ℕ) : Type 0 where
   pub room : length W ≤ length o
-  pub is : out ≡ W ++ drop (length W) o
+  pub is : out ≡ onto W o
 
 -- what an accepted text gives the second pass: n states, in the list, with the first number and the room that they need
 pub record Clear (s list : List ℕ) (n first room : ℕ) : Type 0 where
@@ -148,4 +148,3 @@ afterStates n = record { going = true; used = stateSize * length (fresh n) }
 pub record Planned (s : List ℕ) (first room : ℕ) (p : Plan) : Type 0 where
   pub answer : p .answer ≡ answerRead first room (readText s)
   pub clear : p .answer .reply ≡ 0 → Clear s (p .known .list) (p .known .count) first room
-  pub count : p .answer .reply ≡ 0 → p .answer .length ≡ needed (linesIn (readText s))

@@ -3,9 +3,10 @@
 use Prim.Native.Nat.{ℕ, zero, suc, _+_, _*_}
 use mathlib.Core.List.{List, [], _∷_, _++_}
 use mathlib.Core.Bool.{Bool, true, false, _||_, cond}
-use lib.ListN.{length, drop}
+use lib.ListN.{length}
 use lib.Dec.{ltb, eqb}
-use Rattle.book.specs.Format.{mostStates, mostArcs, stateKind, arcKind, rightPart, startFlag, acceptFlag, stateSize, arcSize}
+use Rattle.book.specs.Format.{mostStates, mostArcs, stateKind, arcKind, rightPart, startFlag, acceptFlag, stateSize, arcSize, onto}
+unfoldable pub use Rattle.book.specs.Format.{idx}
 use Rattle.book.specs.declared.Written.{Written}
 use Rattle.att.specs.Reading.{lineAt}
 use Rattle.att.specs.declared.reading.Line.{Line}
@@ -35,11 +36,6 @@ readFrom (suc n) s at ls = turn (lineAt s at) at ls (λ (next : ℕ) (more : Lis
 -- each line has a byte at least
 unfoldable pub readText : List ℕ → Read
 readText s = readFrom (suc (length s)) s 0 []
-
--- the number of x among the states S; their count where it is none of them
-unfoldable pub idx : List ℕ → ℕ → ℕ
-idx [] x = 0
-idx (y ∷ S) x = elim (eqb y x) [ true ↦ 0 | false ↦ suc (idx S x) ]
 
 -- the states with x, a new one at the end
 unfoldable pub add : List ℕ → ℕ → List ℕ
@@ -149,6 +145,4 @@ importLeaves answer out = record { answer = answer; out = out }
 unfoldable pub importDef : List ℕ → ℕ → ℕ → List ℕ → AfterImport
 importDef s part first out =
     importLeaves (answerOf s part first (length out))
-    (cond (eqb (answerOf s part first (length out) .reply) 0)
-    (written part first (linesIn (readText s)) ++ drop (answerOf s part first (length out) .length) out)
-    out)
+    (cond (eqb (answerOf s part first (length out) .reply) 0) (onto (written part first (linesIn (readText s))) out) out)

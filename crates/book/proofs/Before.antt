@@ -16,6 +16,7 @@ use Rattle.book.specs.Reading.{Read, refused, accepted, ended, readFrom,
 use Rattle.book.specs.Language.{any}
 use Rattle.book.specs.Before.{high, highArc, highBook, onNoArc, replyBelow, readBelow, readAllBelow, checkBelow, bookBelow}
 use Rattle.book.specs.declared.Scan.{Scan}
+use Rattle.book.proofs.Some.{any-append}
 use Rattle.book.proofs.Passed.{kind-rel}
 use Rattle.book.proofs.Progress.{read-refused, read-end, read-more}
 use Rattle.book.proofs.Accepted.{Next, last, more, next, never, ends, positive-ended, is-accepted}
@@ -26,9 +27,8 @@ pub or-none : (a b : Bool) → (a || b) ≡ false → (a ≡ false) × (b ≡ fa
 or-none true b e = absurd (false≢true (sym e))
 or-none false b e = (refl, e)
 
-any-snoc {ℓ} : {A : Type ℓ} (f : A → Bool) (xs : List A) (x : A) → any f (xs ++ (x ∷ [])) ≡ (any f xs || f x)
-any-snoc f [] x = B.or-false (f x)
-any-snoc f (y ∷ xs) x = ap (λ (c : Bool). f y || c) (any-snoc f xs x) ∙ sym (B.or-assoc (f y) (any f xs) (f x))
+any-snoc : {A : Type 0} (f : A → Bool) (xs : List A) (x : A) → any f (xs ++ (x ∷ [])) ≡ (any f xs || f x)
+any-snoc f xs x = any-append f xs (x ∷ []) ∙ ap (λ (c : Bool). any f xs || c) (B.or-false (f x))
 
 -- a test with another reply than the one that was given did not hold
 test-not : (t : Bool) (r rest v : ℕ) → (r ≡ v → ⊥) → cond t r rest ≡ v → (t ≡ false) × (rest ≡ v)

@@ -1,9 +1,11 @@
--- Laws of sets as numbers, of tests, contexts and padded lists.
+-- Laws of sets as numbers, of tests, contexts, padded lists and numbers by first appearance.
 pub mod Bits
 pub mod Tests
 pub mod Contexts
 pub mod Arcs
 pub mod Pad
+pub mod Idx
+pub mod Some
 -- Laws of a record and of the loop of `check`.
 pub mod Laws
 pub mod Passed

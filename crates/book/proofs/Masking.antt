@@ -308,7 +308,8 @@ masked b masks o m = record {
   all-starts =
       m .each allStarts (omega arith) ∙ passing-same (holds allStarts) (isOf focusPart startFlag) (b .states) (λ k. at-all-starts (stateOf b k) (small k));
   all-accepts =
-      m .each allAccepts (omega arith) ∙ passing-same (holds allAccepts) (isOf focusPart acceptFlag) (b .states) (λ k. at-all-accepts (stateOf b k) (small k));
+      m .each allAccepts (omega arith) ∙ passing-same (holds allAccepts) (isOf focusPart acceptFlag) (b .states)
+      (λ k. at-all-accepts (stateOf b k) (small k));
   left-starts =
       m .each leftStarts (omega arith) ∙ passing-same (holds leftStarts) (isOf leftPart startFlag) (b .states) (λ k. at-left-starts (stateOf b k) (small k));
   right-accepts =

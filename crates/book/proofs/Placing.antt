@@ -141,7 +141,8 @@ found-more : (s : List ℕ) (B : Book) (at : ℕ) (b : Book) → Walk s at b B �
 found-more s B at b w f = go (ℕ-discrete (byte s at) stateKind)
   where
     go : Dec (byte s at ≡ stateKind) → (k : ℕ) → k < length (withRecord s at b .states) → Found s B k (getD (withRecord s at b .states) k noState)
-    go (yes e) = rw (states-more s at b e) (at-snoc (Found s B) (b .states) (stateAt s at b) noState f (record { book = b; walk = w; kind = e; count = refl }))
+    go (yes e) = rw (states-more s at b e) (at-snoc (Found s B) (b .states) (stateAt s at b) noState f
+        (record { book = b; walk = w; kind = e; count = refl }))
     go (no e) = rw (states-same s at b e) f
 
 pub found : (s : List ℕ) (B : Book) → Walk s 0 empty B → (k : ℕ) → k < length (B .states) → Found s B k (stateOf B k)

@@ -3,9 +3,9 @@
 -- A `Scan` is what was given before the record: the counts of rules, states and arcs, the number of the first state
 -- of the latest rule, and the part of each state.
 use Prim.Native.Nat.{ℕ, zero, suc, _+_, _-_}
-use mathlib.Core.List.{List, _++_}
-use mathlib.Core.Bool.{Bool, true, not, _&&_, cond}
-use lib.ListN.{length, getD, replicate}
+use mathlib.Core.List.{List, [], _∷_, _++_}
+use mathlib.Core.Bool.{Bool, true, false, not, _&&_, cond}
+use lib.ListN.{length, drop, getD, replicate}
 use lib.Dec.{ltb, leb, eqb}
 use Rattle.book.specs.declared.Scan.{Scan}
 
@@ -103,6 +103,16 @@ byte s i = getD s i 0
 -- "Entries past a count are 0": the list with zeros after it, n in all
 unfoldable pub pad : ℕ → List ℕ → List ℕ
 pad n l = l ++ replicate (n - length l) 0
+
+-- a list written over the front of another: "Acceptance writes only the front of each output buffer."
+abbrev pub onto : List ℕ → List ℕ → List ℕ
+onto v l = v ++ drop (length v) l
+
+-- numbers by first appearance, of sets and of a text's states: the first place of x, or the list's length where it is not there, which is then the next
+-- number
+unfoldable pub idx : List ℕ → ℕ → ℕ
+idx [] x = 0
+idx (y ∷ S) x = elim (eqb y x) [ true ↦ 0 | false ↦ suc (idx S x) ]
 
 -- "one byte of kind, then a body whose length the kind fixes": the length with the kind byte; 0 for an unknown kind
 unfoldable pub recordSize : ℕ → ℕ

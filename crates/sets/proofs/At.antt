@@ -12,7 +12,7 @@ use Rattle.sets.proofs.Pad.{take-pad, getD-pad, getD-pad-all, set-pad, 
 use native.Mathlib.Numerals.{add-one}
 use native.Mathlib.Nat.{add-zero, zero-add, le-of-eq}
 use lib.Seq.{getD-set-other, length-take-le, take-suc-set}
-use Rattle.sets.proofs.Idx.{idx-le, idx-same, idx-snoc}
+use Rattle.book.proofs.Idx.{idx-le, idx-same, idx-snoc}
 use Rattle.sets.proofs.Turns.{Turned, idle, old, new, ran, grows, all-more, all-done}
 
 pub record At (f : ℕ → ℕ → ℕ) (s j : ℕ) (R S : List ℕ) (n : ℕ) : Type 0 where

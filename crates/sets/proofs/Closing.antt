@@ -9,7 +9,7 @@ use native.Mathlib.Decide.{ℕ-discrete, decLt}
 use native.Mathlib.Omega.{arith}
 use lib.Dec.{eqb, leb, ltb}
 use lib.Bits.{bitOr, bitAnd}
-use lib.ListN.{length, getD, List·getD-eq-default}
+use lib.ListN.{length, List·getD-eq-default}
 use borrow.Author.Tests.{eq-eqb, ne-eqb, lt-ltb, le-ltb}
 use Rattle.book.specs.Format.{leftPart, focusPart, rightPart, startFlag, acceptFlag, fromAt, toAt, mostRules}
 use Rattle.book.specs.Reading.{State, Arc, Book}
@@ -17,6 +17,7 @@ use Rattle.book.specs.Language.{any, someState, opens, noState, stateOf, isOf, 
 use Rattle.book.specs.Outline.{ruleMask, allMask, EachMask}
 use Rattle.book.specs.Sound.{Sound, noArc, arcOf}
 use Rattle.book.specs.StateSets.{member}
+use Rattle.book.proofs.Some.{any-each}
 use Rattle.book.proofs.Bits.{member-or, member-none, ext}
 use Rattle.sets.specs.Sets.{intoBy, backBy, leftFirst, leftNext, near, closed, rightLast, rightPrev}
 use Rattle.sets.specs.Focus.{focusStep}
@@ -87,20 +88,16 @@ unfolding stepArcs backBy
 member-back b X c s = member-step c (map (turned toAt fromAt) (b .arcs)) X s ∙ step-back (b .arcs) X c s
 
 -- no arc leads to what is no state, and none leaves it
-any-none : (f : Arc → Bool) (arcs : List Arc) → ((j : ℕ) → j < length arcs → f (getD arcs j noArc) ≡ false) → any f arcs ≡ false
-any-none f [] h = refl
-any-none f (a ∷ arcs) h = ap₂ (λ (p q : Bool). p || q) (h 0 (omega arith)) (any-none f arcs (λ j l. h (suc j) (omega arith)))
-
 pub into-past : (b : Book) (X c s : ℕ) → Sound b → length (b .states) ≤ s → intoBy b X c s ≡ false
 unfolding intoBy
 into-past b X c s o h =
-    any-none (λ (x : Arc). member X (x .from) && (opens x (x .from) c && eqb (x .to) s)) (b .arcs)
+    any-each (λ (x : Arc). member X (x .from) && (opens x (x .from) c && eqb (x .to) s)) noArc (b .arcs)
     (λ j l. let n : arcOf b j .to ≢ s = λ e. absurd (omega (arith, o .arc j l .to)) in simp (ne-eqb _ _ n, B.and-false))
 
 back-past : (b : Book) (X c s : ℕ) → Sound b → length (b .states) ≤ s → backBy b X c s ≡ false
 unfolding backBy
 back-past b X c s o h =
-    any-none (λ (x : Arc). opens x s c && member X (x .to)) (b .arcs)
+    any-each (λ (x : Arc). opens x s c && member X (x .to)) noArc (b .arcs)
     (λ j l. let n : arcOf b j .from ≢ s = λ e. absurd (omega (arith, o .arc j l .from)) in simp (ne-eqb _ _ n))
 
 or-false : (x y : Bool) → x ≡ false → y ≡ false → (x || y) ≡ false

@@ -15,7 +15,7 @@ use Rattle.sets.specs.Sets.{after, before}
 use Rattle.sets.specs.Numbering.{mostSets, pairs, idx, Table, entry, next, run, all}
 use Rattle.sets.specs.Tables.{Tape}
 use Rattle.sets.specs.Counting.{Reached, Distinct, Exactly, MoreThan}
-use Rattle.sets.proofs.Idx.{by-eq, idx-same, idx-other, idx-at, idx-append, idx-snoc, idx-in}
+use Rattle.book.proofs.Idx.{by-eq, idx-same, idx-other, idx-at, idx-append, idx-snoc, idx-in}
 use Rattle.sets.proofs.Turns.{Turned, idle, old, new, ran, grows}
 
 -- one x taken out of S
@@ -368,3 +368,10 @@ module _ (f : ℕ → ℕ → ℕ) (s n : ℕ) (e : ℕ → ℕ → ℕ) (g : �
   walk-end (a ∷ w) t =
       let q = walk-end w (t .1) in
       (h .below _ a (q .0) (t .0), h .step _ a (q .0) (t .0) ∙ ap (λ (y : ℕ). f y a) (q .1))
+
+-- in a list without repeats what stands at a place has that number
+pub idx-distinct : (S : List ℕ) (i : ℕ) → Distinct S → i < length S → idx S (getD S i 0) ≡ i
+idx-distinct S i d h =
+    let l = idx-in S (getD S i 0) i h refl in
+    let b : idx S (getD S i 0) < length S = omega arith in
+    d .once _ _ b h (idx-at S (getD S i 0) b)

@@ -6,7 +6,6 @@ pub mod Sweep
 pub mod Rows
 pub mod Closing
 -- Laws of the numbering: of a number, of a turn, of the table as it stands in the slices; and that it counts the sets over all tapes.
-pub mod Idx
 pub mod Pad
 pub mod Turns
 pub mod At

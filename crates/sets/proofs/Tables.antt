@@ -17,7 +17,7 @@ use Rattle.sets.specs.Tables.{leftCount, rightCount, leftEntry, rightEnt
 use Rattle.sets.specs.Counting.{leftOver, rightOver}
 use Rattle.sets.specs.declared.Built.{Built}
 use Rattle.sets.proofs.Pad.{length-pad, getD-pad-all}
-use Rattle.sets.proofs.Idx.{idx-distinct}
+use Rattle.sets.proofs.Counts.{idx-distinct}
 use Rattle.sets.proofs.Counts.{law-distinct, law-width, Half, half, walk-front, walk-end}
 pub use Rattle.sets.proofs.WaysOut.{way-refused, way-rows, way-sets}
 use Rattle.sets.proofs.WaysOut.{Way, refused, short, many-left, many-right, built, way, way-on, way-accepted, numbered-both, reply}

@@ -8,7 +8,7 @@ use native.Mathlib.Decide.{decLt, ℕ-discrete}
 use lib.ListN.{length, length-append}
 use borrow.Author.Tests.{lt-ltb, le-ltb, eq-eqb, ne-eqb}
 use Rattle.book.specs.Format.{symbolCount}
-use Rattle.sets.proofs.Idx.{idx-le}
+use Rattle.book.proofs.Idx.{idx-le}
 use Rattle.sets.specs.Numbering.{pairs, idx, Table, enter, met, next, turn, run, all}
 
 pub enter-new : (n x : ℕ) (t : Table) → n ≡ length (t .sets) → enter n x t ≡ record { sets = t .sets ++ (x ∷ []); rows = t .rows ++ (n ∷ []) }

@@ -16,7 +16,7 @@ use borrow.Author.Tests.{lt-ltb, le-ltb}
 use Rattle.book.specs.Format.{symbolCount}
 use Rattle.sets.specs.Numbering.{idx, Table, enter, met, next, turn, run}
 use Rattle.sets.specs.Before.{nextBelow, turnBelow, runBelow}
-use Rattle.sets.proofs.Idx.{idx-same}
+use Rattle.book.proofs.Idx.{idx-same}
 use Rattle.sets.proofs.Turns.{enter-new, enter-old}
 
 -- as many entries as there are symbols: the numbering as it is

@@ -7,7 +7,7 @@ use mathlib.Core.List.{List, [], _∷_, _++_}
 use lib.Dec.{ltb, eqb}
 use lib.ListN.{length, getD}
 use Rattle.book.specs.Format.{symbolCount}
-unfoldable pub use Rattle.book.specs.Format.{pad}
+unfoldable pub use Rattle.book.specs.Format.{pad, idx}
 
 -- "at most 256 sets on each side"
 abbrev pub mostSets : ℕ
@@ -16,11 +16,6 @@ mostSets = 256
 -- the pairs of a numbered set and a symbol: 256 rows a side, and "Rows have 32 entries"
 abbrev pub pairs : ℕ
 pairs = symbolCount * mostSets
-
--- the number of x: its first place in the sets, or their count where it is not there, which is then the next number
-unfoldable pub idx : List ℕ → ℕ → ℕ
-idx [] x = 0
-idx (y ∷ S) x = elim (eqb y x) [ true ↦ 0 | false ↦ suc (idx S x) ]
 
 -- the numbered sets so far, and the next numbers so far, row after row
 pub record Table : Type 0 where

@@ -56,7 +56,7 @@ returns-3 c =
     let e = c .before .before .before .before .before .before .before .before .before .before .before in
     let p = e .before .before .before in
     let k = p .plan-of .ensures .clear (e .if2 .left) in
-    import-done _ _ _ _ _ (p .plan-of .ensures .answer ∙ sym (answer-read _ _ _ _ (omega arith))) _ (e .if2 .left) (p .plan-of .ensures .count (e .if2 .left))
+    import-done _ _ _ _ _ (p .plan-of .ensures .answer ∙ sym (answer-read _ _ _ _ (omega arith))) _ (e .if2 .left)
     (whole-filled _ _ _ _ _ _ k _ _ (c .before .before .before .before .before .before .before .put-states .ensures) (c .before .before .put-lines .ensures))
 
 pub import-spec : {M : Type 1} → statement M

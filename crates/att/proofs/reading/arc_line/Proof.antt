@@ -54,7 +54,16 @@ returns c =
     let n1 = n2 .before .before in
     let b2 = n1 .before .before in
     c .arc-of .ensures
-    ∙ rw (n3 .number3 .ensures, n2 .number2 .ensures, n1 .number .ensures, n3 .before .front3 .ensures, n2 .before .front2 .ensures, n1 .before .front .ensures, b2 .behind2 .ensures, b2 .before .behind .ensures)
+    ∙ rw (
+      n3 .number3 .ensures,
+      n2 .number2 .ensures,
+      n1 .number .ensures,
+      n3 .before .front3 .ensures,
+      n2 .before .front2 .ensures,
+      n1 .before .front .ensures,
+      b2 .behind2 .ensures,
+      b2 .before .behind .ensures,
+    )
     (arc-read _ _)
 
 pub arc-line-spec : {M : Type 1} → statement M

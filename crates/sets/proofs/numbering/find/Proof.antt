@@ -5,7 +5,7 @@ use mathlib.Core.Path.{_≡_}
 use native.Mathlib.Omega.{arith}
 use lib.ListN.{take, drop}
 use Rattle.sets.specs.Numbering.{idx}
-use Rattle.sets.proofs.Idx.{search-stop, search-on, search-end}
+use Rattle.book.proofs.Idx.{search-stop, search-on, search-end}
 use Rattle.sets.proofs.numbering.find.Statement.{statement}
 use Rattle.sets.proofs.numbering.find.Tie as tie
 

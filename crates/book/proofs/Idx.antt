@@ -9,8 +9,7 @@ use native.Mathlib.Numerals.{add-one}
 use lib.ListN.{length, getD, take, drop, drop-of-length-le}
 use lib.Seq.{drop-cons, length-take-le, getD-take}
 use borrow.Author.Tests.{eq-eqb, ne-eqb}
-use Rattle.sets.specs.Counting.{Distinct}
-use Rattle.sets.specs.Numbering.{idx}
+use Rattle.book.specs.Format.{idx}
 
 pub idx-same : (y : ℕ) (S : List ℕ) (x : ℕ) → y ≡ x → idx (y ∷ S) x ≡ 0
 unfolding idx
@@ -76,9 +75,3 @@ module _ (L : List ℕ) (n x : ℕ) (fits : n ≤ length L) where
 
   pub search-end : (i : ℕ) → i ≡ n → idx (drop i (take n L)) x ≡ 0
   search-end i e = rw (drop-of-length-le (take n L) (le-of-eq (length-take-le n L fits ∙ sym e))) (idx-nil x)
-
-pub idx-distinct : (S : List ℕ) (i : ℕ) → Distinct S → i < length S → idx S (getD S i 0) ≡ i
-idx-distinct S i d h =
-    let l = idx-in S (getD S i 0) i h refl in
-    let b : idx S (getD S i 0) < length S = omega arith in
-    d .once _ _ b h (idx-at S (getD S i 0) b)

@@ -1,4 +1,4 @@
--- Laws of `any`.
+-- Laws of `any`: of two tests, of two lists, of a test that fails, of one number alone. Assumes nothing.
 use Prim.Native.Nat.{ℕ, zero, suc, _+_, _≤_, _<_}
 use mathlib.Core.Path.{_≡_, refl, ap, sym, _∙_}
 use mathlib.Core.List.{List, [], _∷_, _++_}
@@ -6,7 +6,8 @@ use mathlib.Core.Bool.{Bool, true, false, _&&_, _||_}
 use mathlib.Core.Bool as B
 use native.Mathlib.Omega.{arith}
 use native.Mathlib.Decide.{ℕ-discrete}
+use lib.ListN.{length, getD}
 use Rattle.book.specs.Language.{any, upFrom}
 
 or-four : (a b c d : Bool) → ((a || b) || (c || d)) ≡ ((a || c) || (b || d))
 or-four true b c d = refl
@@ -36,6 +37,15 @@ module _ {A : Type 0} where
   pub any-none : (f : A → Bool) → ((x : A) → f x ≡ false) → (l : List A) → any f l ≡ false
   any-none f h [] = refl
   any-none f h (x ∷ l) = rw (h x, any-none f h l)
+
+  -- place by place
+  pub any-each : (f : A → Bool) (d : A) (l : List A) → ((j : ℕ) → j < length l → f (getD l j d) ≡ false) → any f l ≡ false
+  any-each f d [] h = refl
+  any-each f d (x ∷ l) h = rw (h 0 (omega arith), any-each f d l (λ j k. h (suc j) (omega arith)))
+
+  pub any-same : (f g : A → Bool) (d : A) (l : List A) → ((j : ℕ) → j < length l → f (getD l j d) ≡ g (getD l j d)) → any f l ≡ any g l
+  any-same f g d [] h = refl
+  any-same f g d (x ∷ l) h = rw (h 0 (omega arith), any-same f g d l (λ j k. h (suc j) (omega arith)))
 
   any-or : (f g : A → Bool) (l : List A) → any (λ (x : A). f x || g x) l ≡ (any f l || any g l)
   any-or f g [] = refl
