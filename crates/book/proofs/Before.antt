@@ -1,32 +1,31 @@
 -- CHECK with the first n symbols: with as many as there are it is CHECK, and it accepts exactly the books that CHECK accepts and that have no symbol
 -- above; as the same book. Assumes nothing.
 use Prim.Native.Nat.{ℕ, zero, suc, _+_, _≤_, _<_}
-use mathlib.Core.Path.{_≡_, refl, sym, ap, ap₂, _∙_}
+use mathlib.Core.Path.{_≡_, refl, sym, ap, ap₂, subst, _∙_}
 use mathlib.Core.List.{List, [], _∷_, _++_}
 use mathlib.Core.Bool as B
-use mathlib.Core.Bool.{Bool, true, false, not, cond, _&&_, _||_, and-false, false≢true}
+use mathlib.Core.Bool.{Bool, true, false, not, cond, _&&_, _||_, and-false}
 use native.Mathlib.Omega.{arith}
-use lib.Dec.{leb, ltb, eqb}
+use lib.Dec.{T, leb, ltb, eqb, le→leb}
 use lib.ListN.{length, getD}
-use borrow.Author.Tests.{lt-leb, leb-false, eqb-true, eqb-false, ne-eqb, le-ltb}
+use borrow.Author.Tests.{lt-leb, eqb-true, eqb-false, ne-eqb, le-ltb}
 use Rattle.book.specs.Format.{symbolCount, mostRules, mostArcs, longestWord, endKind, endSize, lengthAt, symbolsAt, fromAt, lowAt, highAt, toAt}
 use Rattle.book.specs.Format.{byte, recordSize, symbolsFit, ruleReply, arcReply, kindReply, recordReply}
-use Rattle.book.specs.Reading.{Arc, Book, empty, scanOf, wordAt, arcAt, withRecord}
+use Rattle.book.specs.Reading.{Book, empty, scanOf, wordAt, arcAt, withRecord}
 use Rattle.book.specs.Reading.{Read, refused, accepted, ended, readFrom, readBook, answer, checkDef, bookIn, bookOf}
 use Rattle.book.specs.Language.{any}
-use Rattle.book.specs.Before.{high, highArc, highBook, onNoArc, replyBelow, readBelow, readAllBelow, checkBelow, bookBelow}
+use Rattle.book.specs.Unused.{onNoArc}
+use Rattle.book.specs.Before.{high, highArc, highBook, replyBelow, readBelow, readAllBelow, checkBelow, bookBelow}
 use Rattle.book.specs.declared.Scan.{Scan}
+use Rattle.book.proofs.Tests.{or-none, any-in}
 use Rattle.book.proofs.Some.{any-append}
+use Rattle.book.proofs.Unused.{no-arc-says}
 use Rattle.book.proofs.Passed.{kind-rel}
 use Rattle.book.proofs.Progress.{read-refused, read-end, read-more}
 use Rattle.book.proofs.Accepted.{Next, last, more, next, never, ends, positive-ended, is-accepted}
 use Rattle.book.proofs.Sound.{word-fits}
 
 -- ---- tests
-pub or-none : (a b : Bool) → (a || b) ≡ false → (a ≡ false) × (b ≡ false)
-or-none true b e = absurd (false≢true (sym e))
-or-none false b e = (refl, e)
-
 any-snoc : {A : Type 0} (f : A → Bool) (xs : List A) (x : A) → any f (xs ++ (x ∷ [])) ≡ (any f xs || f x)
 any-snoc f xs x = any-append f xs (x ∷ []) ∙ ap (λ (c : Bool). any f xs || c) (B.or-false (f x))
 
@@ -42,15 +41,9 @@ low-word n (x ∷ w) f = ap₂ _||_ (lt-leb n x (f 0 (omega arith))) (low-word n
 
 -- in a book without a symbol above no arc is open to one
 pub no-arc : (n : ℕ) (b : Book) (a : ℕ) → highBook n b ≡ false → n ≤ a → onNoArc b a ≡ true
-unfolding highBook onNoArc
-no-arc n b a e h = ap not (shut (b .arcs) (or-none (any (high n) (b .words)) _ e .1))
-  where
-    shut : (arcs : List Arc) → any (highArc n) arcs ≡ false → any (λ (x : Arc). leb (x .low) a && leb a (x .high)) arcs ≡ false
-    shut [] z = refl
-    shut (x ∷ arcs) z =
-        let y = or-none (highArc n x) (any (highArc n) arcs) z in
-        let low = leb-false n (x .high) (y .0) in
-        ap₂ _||_ (ap (λ (c : Bool). leb (x .low) a && c) (lt-leb a (x .high) (omega arith)) ∙ and-false (leb (x .low) a)) (shut arcs (y .1))
+unfolding highBook
+no-arc n b a e h =
+    no-arc-says b a .1 (λ x i l g. subst T (or-none (any (high n) (b .words)) _ e .1) (any-in (highArc n) i (le→leb n (x .high) (omega arith))))
 
 -- ---- one record
 module _ (n : ℕ) (s : List ℕ) (at : ℕ) where

@@ -22,6 +22,8 @@ pub mod Records
 pub mod Placing
 pub mod Masking
 pub mod Outlining
+-- A symbol that the book does not use.
+pub mod Unused
 -- CHECK with fewer symbols.
 pub mod Before
 -- What the crates above may rely on.

@@ -2,7 +2,7 @@
 -- with as many as there are now it is CHECK as it is. No contract uses these.
 use Prim.Native.Nat.{ℕ, zero, suc, _+_}
 use mathlib.Core.List.{List}
-use mathlib.Core.Bool.{Bool, true, false, not, cond, _&&_, _||_}
+use mathlib.Core.Bool.{Bool, true, false, cond, _&&_, _||_}
 use lib.Dec.{leb, ltb, eqb}
 use lib.ListN.{length}
 use Rattle.book.specs.Format.{endKind, endSize, byte, recordSize, recordReply}
@@ -22,10 +22,6 @@ highArc n x = leb n (x .high)
 -- a word of the book has one, or an arc is open to one
 unfoldable pub highBook : ℕ → Book → Bool
 highBook n b = any (high n) (b .words) || any (highArc n) (b .arcs)
-
--- no arc is open to the symbol
-unfoldable pub onNoArc : Book → ℕ → Bool
-onNoArc b a = not (any (λ (x : Arc). leb (x .low) a && leb a (x .high)) (b .arcs))
 
 -- "then 4, 3, 5, 6": the record's reply, where a symbol that is none of the first n is 5; what is tested before 5 stays as it is
 unfoldable pub replyBelow : ℕ → List ℕ → ℕ → Scan → ℕ

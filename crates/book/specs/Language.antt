@@ -17,9 +17,13 @@ abbrev pub upFrom : ℕ → ℕ → List ℕ
 upFrom a zero = []
 upFrom a (suc n) = a ∷ upFrom (suc a) n
 
--- "An arc is open to each symbol from lowest to highest": the arc leaves p and is open to a
+-- "An arc is open to each symbol from lowest to highest"
+abbrev pub openTo : Arc → ℕ → Bool
+openTo x a = leb (x .low) a && leb a (x .high)
+
+-- the arc leaves p and is open to a
 abbrev pub opens : Arc → ℕ → ℕ → Bool
-opens x p a = eqb (x .from) p && (leb (x .low) a && leb a (x .high))
+opens x p a = eqb (x .from) p && openTo x a
 
 -- the word leads from the state p to the state q
 unfoldable pub leads : List Arc → ℕ → List ℕ → ℕ → Bool

@@ -3,7 +3,7 @@
 use Prim.Native.Nat.{ℕ, suc, _+_, _-_, _≤_, _<_}
 use mathlib.Core.Path.{_≡_, refl, sym, ap, _∙_, subst}
 use mathlib.Core.Bool.{Bool, true, false}
-use mathlib.Core.List.{List, [], _∷_, _++_, append-assoc}
+use mathlib.Core.List.{List, [], _∷_, _++_}
 use native.Mathlib.Omega.{arith}
 use native.Mathlib.Numerals.{add-one}
 use lib.Dec.{T}
@@ -21,13 +21,9 @@ use Rattle.stretches.specs.Position.{hits}
 use Rattle.lines.specs.Lines.{lineBy, DecidesBy, hitLines, endLines, startLines, LinesFit, LinesPut}
 use Rattle.lines.specs.declared.writing.Deciding.{Deciding}
 use Rattle.stretches.proofs.Lists.{each-none, each-same, keep-not}
+use Rattle.stretches.proofs.Counts.{words-append}
 use Rattle.stretches.proofs.Front.{Front, front-begin, front-place, front-put, front-finish, put-nil}
 use Rattle.stretches.proofs.Pruned.{Pruned, pruned-start, pruned-turn, pruned-hits, pruned-dead}
-
-words-append : (a b : List Line) → wordsIn (a ++ b) ≡ wordsIn a ++ wordsIn b
-unfolding wordsIn
-words-append [] b = refl
-words-append (x ∷ a) b = ap (λ (r : List ℕ). lineWords x ++ r) (words-append a b) ∙ sym (append-assoc (lineWords x) (wordsIn a) (wordsIn b))
 
 words-none : wordsIn [] ≡ []
 unfolding wordsIn

@@ -1,25 +1,27 @@
 -- The theorems about rewriting and account, on one page. Read them with Paper.antt (source document 001) and Sentences.antt (document 01) of
 -- crates/stretches/specs. No hypothesis on the book or the tape, but where an accepted book is named.
 use Prim.Native.Nat.{ℕ, _+_, _*_, _≤_, _<_}
-use mathlib.Core.List.{List, [], _∷_, map, List·Memᴰ}
+use mathlib.Core.List.{List, [], _∷_, _++_, map, List·Memᴰ}
 use mathlib.Core.Path.{_≡_, sym, ap, _∙_}
 use mathlib.Core.Logic.{_↔_, _⊎_}
 use mathlib.Core.Bool.{true, false, _&&_}
 use lib.ListN.{length, take, drop, getD}
 use lib.Seq.{slice, slice-empty}
 use Rattle.book.specs.Format.{symbolCount, longestWord}
-use Rattle.book.specs.Reading.{Book, checkDef, bookOf}
+use Rattle.book.specs.Reading.{Arc, Book, checkDef, bookOf}
 use Rattle.book.specs.Language.{Rules, rules, rulesIn}
-use Rattle.book.specs.Before.{high, highBook, onNoArc, checkBelow, bookBelow}
+use Rattle.book.specs.Before.{high, highBook, checkBelow, bookBelow}
+use Rattle.book.specs.Unused.{onNoArc, Blind}
 use Rattle.sets.specs.Sets.{leftFirst, leftNext, rightLast, rightPrev}
 use Rattle.sets.specs.Workspace.{rowBytes, setWords, buildDef}
 use Rattle.sets.specs.Before.{bytesBelow, buildBelow, AsBefore}
 use Rattle.stretches.specs.Candidates.{candidate, ruleOf, taken}
 use Rattle.stretches.specs.Output.{Mark, marks, ruleWord, written, rewriting, symbolsOf, originsOf}
 use Rattle.stretches.specs.Account.{Line, account, lineLength, wordsIn}
-use Rattle.stretches.specs.Buffers.{onto}
+use Rattle.stretches.specs.Buffers.{longestTape, onto}
 use Rattle.rewriter.specs.Show.{between, boundsOf, showDef}
 use Rattle.rewriter.specs.Replies.{AfterRewrite, rewriteDef, accountDef}
+use Rattle.rewriter.specs.Races.{Lent, rewriteCall, accountCall, OutputRoom, AccountRoom, OutputsJoin, AccountsJoin}
 use Rattle.stretches.specs.Paper.{Context, start, end, RC, BookRC, C, Earliest, Over, Overlap, CLM, CLML, RewriteLML}
 use Rattle.stretches.specs.Sentences.{Candidate, Taken, Takes, TakesBy, Rising, Sorted, SameCandidate, lineNumber, candidateCount}
 use Rattle.stretches.specs.Sentences.{Judged, Decides, takenLines, lineOf}
@@ -30,6 +32,8 @@ use Rattle.stretches.specs.Books.{bookP}
 use Rattle.stretches.specs.Table.{rewritten, rows, tape8, table}
 use Rattle.stretches.specs.Times.{timed, both-times}
 use Rattle.stretches.specs.Insertions.{worked, insertions, inserted}
+use Rattle.stretches.specs.Markers.{races, races-worked}
+use Rattle.stretches.specs.Races.{joined, beyond, marker, later, moved, shifted}
 use Rattle.output.specs.Passes.{mostOutput}
 use Rattle.stretches.proofs.Greedy as Greedy
 use Rattle.stretches.proofs.Walks as Walks
@@ -44,7 +48,9 @@ use Rattle.stretches.proofs.Origins as Origins
 use Rattle.stretches.proofs.Rising as Rising
 use Rattle.stretches.proofs.Before as Before
 use Rattle.stretches.proofs.Agreeing as Agreeing
+use Rattle.stretches.proofs.RacesJoin as RacesJoin
 use Rattle.book.proofs.Before as BookBefore
+use Rattle.book.proofs.Unused as Unused
 use Rattle.sets.proofs.Before as SetsBefore
 use Rattle.stretches.proofs.WordMarks as WordMarks
 use Rattle.stretches.proofs.Counts as Counts
@@ -53,6 +59,7 @@ use Rattle.output.proofs.Limits as Limits
 use Rattle.rewriter.proofs.Showing as Showing
 use Rattle.rewriter.proofs.ShownAfter as ShownAfter
 use Rattle.rewriter.proofs.TimesAfter as TimesAfter
+use Rattle.rewriter.proofs.Races as Races
 
 -- 0. The proved table: cases 1 to 11 of document 01, from the books' bytes. (P's account of case 8 is `account8` beside it.)
 pub proved-table : map rewritten rows ≡ rows
@@ -65,6 +72,10 @@ timed-row = both-times
 -- Marks put in without removing anything (document 02, No. 5): outputs, origins and accounts.
 pub proved-insertions : map worked insertions ≡ insertions
 proved-insertions = inserted
+
+-- Two races on one tape (document 02, No. 8), with the symbols that are on no arc: alone and joined.
+pub proved-races : map worked races ≡ races
+proved-races = races-worked
 
 -- 1. Source document 001.
 
@@ -325,3 +336,70 @@ module _ (b : Book) (set a : ℕ) (shut : onNoArc b a ≡ true) where
 
   pub right-returns : rightPrev b set a ≡ rightLast b
   right-returns = SetsBefore.right-back b set a shut
+
+-- 9. Document 02, No. 8, two races on one tape. Over rules none of which looks across the symbol m: "the first rewriting, the symbol, and the second
+-- rewriting, with the second's origins moved on by the first tape's length and one"; the stretches taken and the accounts join the same way.
+module _ (b : Rules) (t : List ℕ) (m : ℕ) (u : List ℕ) (across : Blind m b) where
+  pub joined-output : rewriting b (joined t m u) ≡ rewriting b t ++ (marker t m ∷ map (later (beyond t)) (rewriting b u))
+  joined-output = RacesJoin.rewriting-joins b t m u across
+
+  pub joined-taken : taken b (joined t m u) ≡ taken b t ++ map (shifted (beyond t)) (taken b u)
+  joined-taken = RacesJoin.taken-joins b t m u across
+
+  pub joined-account : account b (joined t m u) ≡ account b t ++ map (moved (beyond t)) (account b u)
+  joined-account = RacesJoin.account-joins b t m u across
+
+  pub joined-candidates : (i j r : ℕ) → Candidate b (joined t m u) i j r
+      ↔ (Candidate b t i j r ⊎ ((x y : ℕ) × (i ≡ beyond t + x) × (j ≡ beyond t + y) × Candidate b u x y r))
+  joined-candidates = RacesJoin.candidates-join b t m u across
+
+-- Of a book: such a symbol is each that is on no arc, which is to say from the lowest to the highest symbol of none.
+pub no-arc-blind : (b : Book) (m : ℕ) → onNoArc b m ≡ true → Blind m (rules b)
+no-arc-blind = Unused.blind
+
+pub no-arc-says : (b : Book) (m : ℕ) → (onNoArc b m ≡ true) ↔ ((x : Arc) → List·Memᴰ x (b .arcs) → x .low ≤ m → m ≤ x .high → ⊥)
+no-arc-says = Unused.no-arc-says
+
+-- Of the calls. "Premise: the call on the joined tape is accepted": then so is the call on either tape, exactly in buffers with room. A valid symbol need
+-- not be asked for: an accepted tape has no other.
+module _ (s t : List ℕ) (m : ℕ) (u : List ℕ) (x : Lent) where
+  module _ (accepted : rewriteCall s (joined t m u) x .answer .reply ≡ 0) where
+    pub first-accepted : (y : Lent) → (rewriteCall s t y .answer .reply ≡ 0) ↔ OutputRoom s t y
+    first-accepted = Races.first-output s t m u x accepted
+
+    pub second-accepted : (y : Lent) → (rewriteCall s u y .answer .reply ≡ 0) ↔ OutputRoom s u y
+    second-accepted = Races.second-output s t m u x accepted
+
+    module _ (shut : onNoArc (bookOf s) m ≡ true) where
+      -- with any buffers that have room; and with the buffers that were lent for the joined tape, of which nothing need be asked
+      pub outputs-join-within : (y : Lent) → OutputRoom s t y → (z : Lent) → OutputRoom s u z
+          → OutputsJoin (length t) m (rewriteCall s (joined t m u) x) (rewriteCall s t y) (rewriteCall s u z)
+      outputs-join-within = Races.outputs-join s t m u shut x accepted
+
+      pub outputs-join : OutputsJoin (length t) m (rewriteCall s (joined t m u) x) (rewriteCall s t x) (rewriteCall s u x)
+      outputs-join = let r = Races.output-room s t m u shut x accepted in outputs-join-within x (r .0) x (r .1)
+
+  module _ (accepted : accountCall s (joined t m u) x .answer .reply ≡ 0) where
+    pub first-accounted : (y : Lent) → (accountCall s t y .answer .reply ≡ 0) ↔ AccountRoom s t y
+    first-accounted = Races.first-account s t m u x accepted
+
+    pub second-accounted : (y : Lent) → (accountCall s u y .answer .reply ≡ 0) ↔ AccountRoom s u y
+    second-accounted = Races.second-account s t m u x accepted
+
+    module _ (shut : onNoArc (bookOf s) m ≡ true) where
+      pub accounts-join-within : (y : Lent) → AccountRoom s t y → (z : Lent) → AccountRoom s u z
+          → AccountsJoin (length t) (accountCall s (joined t m u) x) (accountCall s t y) (accountCall s u z)
+      accounts-join-within = Races.accounts-join s t m u shut x accepted
+
+      pub accounts-join : AccountsJoin (length t) (accountCall s (joined t m u) x) (accountCall s t x) (accountCall s u x)
+      accounts-join = let r = Races.account-room s t m u shut x accepted in accounts-join-within x (r .0) x (r .1)
+
+  -- When the premise holds: where both tapes are accepted, the symbol is valid, and the joined tape is not too long and has room.
+  module _ (valid : m < symbolCount) (fits : length (joined t m u) ≤ longestTape) (y z : Lent) where
+    pub joined-accepted : rewriteCall s t y .answer .reply ≡ 0 → rewriteCall s u z .answer .reply ≡ 0 → OutputRoom s (joined t m u) x
+        → rewriteCall s (joined t m u) x .answer .reply ≡ 0
+    joined-accepted p q = Races.joined-output s t m u y p z q valid fits x
+
+    pub joined-accounted : accountCall s t y .answer .reply ≡ 0 → accountCall s u z .answer .reply ≡ 0 → AccountRoom s (joined t m u) x
+        → accountCall s (joined t m u) x .answer .reply ≡ 0
+    joined-accounted p q = Races.joined-account s t m u y p z q valid fits x

@@ -3,7 +3,7 @@
 use Prim.Native.Nat.{ℕ, zero, suc, _+_, _≤_, _<_}
 use mathlib.Core.Path.{_≡_, refl, sym, ap}
 use mathlib.Core.List.{List, [], _∷_}
-use mathlib.Core.Bool.{Bool, true, false, cond, not, _||_, or-true, false≢true}
+use mathlib.Core.Bool.{Bool, true, false, cond, not, _||_, or-true}
 use native.Mathlib.Numerals.{add-one}
 use native.Mathlib.Omega.{arith}
 use native.Mathlib.Decide.{ℕ-discrete}
@@ -13,6 +13,7 @@ use lib.Seq.{drop-cons}
 use borrow.Author.Tests.{eq-eqb, ne-eqb, lt-ltb, le-ltb, ltb-true, ltb-false, le-leb, lt-leb, leb-false}
 use Rattle.book.specs.Format.{symbolCount}
 use Rattle.book.specs.Reading.{checkDef}
+use Rattle.book.proofs.Tests.{or-none}
 use Rattle.sets.specs.Workspace.{rowBytes, setWords}
 use Rattle.stretches.specs.Buffers.{longestTape}
 use Rattle.stretches.specs.Lists.{greatest}
@@ -45,7 +46,7 @@ all-good [] h i g = absurd (omega arith)
 all-good (x ∷ t) h zero g = ltb-true x symbolCount (head-good (ltb x symbolCount) (length t) (firstBad t) h .0)
 all-good (x ∷ t) h (suc i) g = all-good t (head-good (ltb x symbolCount) (length t) (firstBad t) h .1) i (omega arith)
 
-none-bad : (t : List ℕ) → Symbols t → firstBad t ≡ length t
+pub none-bad : (t : List ℕ) → Symbols t → firstBad t ≡ length t
 unfolding firstBad
 none-bad [] h = refl
 none-bad (x ∷ t) h = simp (lt-ltb x symbolCount (h 0 (omega arith))) (ap suc (none-bad t (λ i g. h (suc i) (omega arith))))
@@ -141,10 +142,6 @@ past-book r p rest e = by (ℕ-discrete r 0)
     by (yes z) = (z, simp (eq-eqb r 0 z) at e)
     by (no h) = absurd (h (simp (ne-eqb r 0 h) at e))
 
-neither : (a b : Bool) → (a || b) ≡ false → (a ≡ false) × (b ≡ false)
-neither true b e = absurd (false≢true (sym e))
-neither false b e = (refl, e)
-
 pub admitted : (book tape : List ℕ) (rows sets scratch : ℕ) → early book tape rows sets scratch .reply ≡ 0 → Admitted book tape rows sets scratch
 unfolding early
 admitted book tape rows sets scratch e =
@@ -153,7 +150,7 @@ admitted book tape rows sets scratch e =
     let p10 = past (ltb (firstBad tape) (length tape)) 9 (firstBad tape) _ (p9 .1) in
     let p11 = past (ltb rows rowBytes || ltb sets setWords) 10 0 _ (p10 .1) in
     let p12 = past (leb scratch (length tape)) 11 0 _ (p11 .1) in
-    let room = neither (ltb rows rowBytes) (ltb sets setWords) (p11 .0) in
+    let room = or-none (ltb rows rowBytes) (ltb sets setWords) (p11 .0) in
     record {
       accepted = p .0;
       fits = ltb-false _ _ (p9 .0);

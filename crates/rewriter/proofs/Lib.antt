@@ -8,6 +8,9 @@ pub mod Showing
 pub mod ShownAfter
 pub mod Standing
 pub mod TimesAfter
+-- Accepted calls; two races on one tape.
+pub mod Accepted
+pub mod Races
 -- What the crates above may rely on, and the theorems on one page.
 pub mod Callers
 pub mod One

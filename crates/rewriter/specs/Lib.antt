@@ -3,3 +3,5 @@ pub mod Replies
 pub mod Show
 -- For the contracts of inner functions: what is handed on before the forward passes.
 pub mod Opening
+-- Two races on one tape, for theorems.
+pub mod Races

@@ -4,19 +4,21 @@ use Prim.Native.Nat.{ℕ, _+_, _-_, _*_, _≤_, _<_}
 use mathlib.Core.Path.{_≡_, refl, sym, ap, ap₂, _∙_, subst, subst₂}
 use mathlib.Core.Bool as B
 use mathlib.Core.Bool.{Bool, true, false, not, cond, _&&_, _||_}
-use mathlib.Core.List.{List, [], _∷_, _++_}
+use mathlib.Core.List.{List, [], _++_}
 use native.Mathlib.Omega.{arith}
-use borrow.Author.Tests.{eq-eqb, le-ltb, not-true}
+use borrow.Author.Tests.{eq-eqb, le-ltb}
 use lib.Arith.{digits-lt}
-use lib.Dec.{ltb, leb, eqb}
+use lib.Dec.{ltb, eqb}
 use lib.ListN.{length, getD, drop, List·getD-append}
 use Rattle.book.specs.Format.{symbolCount, leftPart}
 use Rattle.book.specs.Reading.{Arc, Book, bookOf, checkDef}
-use Rattle.book.specs.Language.{any, opens, starts}
+use Rattle.book.specs.Language.{opens, starts}
 use Rattle.book.specs.StateSets.{member}
 use Rattle.book.specs.declared.Checked.{Checked}
-use Rattle.book.specs.Before.{onNoArc, checkBelow}
-use Rattle.book.proofs.Before.{or-none, no-arc, old-book, old-check, old-low, check-now, book-now}
+use Rattle.book.specs.Unused.{onNoArc}
+use Rattle.book.specs.Before.{checkBelow}
+use Rattle.book.proofs.Unused.{no-open}
+use Rattle.book.proofs.Before.{no-arc, old-book, old-check, old-low, check-now, book-now}
 use Rattle.sets.specs.Sets.{setOf, intoBy, backBy, leftFirst, leftNext, closed, rightLast, rightPrev}
 use Rattle.sets.specs.Numbering.{mostSets, pairs, Table, all, pad}
 use Rattle.sets.specs.Workspace.{rowBytes, setWords, leftTable, rightTable, unchanged, cleared, filled, numbered, buildDef}
@@ -29,21 +31,12 @@ use Rattle.sets.proofs.Widths.{run-now, Same, same, same-entry, new-ent
 
 -- ---- a symbol on no arc leads back to the set of the empty tape, on either side
 module _ (b : Book) (X a : ℕ) (shut : onNoArc b a ≡ true) where
-  -- a test that asks for an open arc fails
-  none : (f : Arc → Bool) → ((x : Arc) → (leb (x .low) a && leb a (x .high)) ≡ false → f x ≡ false) → any f (b .arcs) ≡ false
-  unfolding onNoArc
-  none f c = by (b .arcs) (not-true _ shut)
-    where
-      by : (arcs : List Arc) → any (λ (x : Arc). leb (x .low) a && leb a (x .high)) arcs ≡ false → any f arcs ≡ false
-      by [] z = refl
-      by (x ∷ arcs) z = let y = or-none (leb (x .low) a && leb a (x .high)) _ z in ap₂ _||_ (c x (y .0)) (by arcs (y .1))
-
   pub left-back : leftNext b X a ≡ leftFirst b
   unfolding leftNext leftFirst intoBy
   left-back = λ i. setOf b (λ (s : ℕ). (ap (λ (c : Bool). starts b leftPart s || c) (into s) ∙ B.or-false (starts b leftPart s)) i)
     where
       into : (s : ℕ) → intoBy b X a s ≡ false
-      into s = none (λ (x : Arc). member X (x .from) && (opens x (x .from) a && eqb (x .to) s)) (λ x e.
+      into s = no-open b a shut (λ (x : Arc). member X (x .from) && (opens x (x .from) a && eqb (x .to) s)) (λ x e.
           ap (λ (c : Bool). member X (x .from) && ((eqb (x .from) (x .from) && c) && eqb (x .to) s)) e
           ∙ ap (λ (c : Bool). member X (x .from) && (c && eqb (x .to) s)) (B.and-false (eqb (x .from) (x .from))) ∙ B.and-false (member X (x .from)))
 
@@ -52,7 +45,7 @@ module _ (b : Book) (X a : ℕ) (shut : onNoArc b a ≡ true) where
   right-back = ap (closed b) (λ i s. back s i)
     where
       back : (s : ℕ) → backBy b X a s ≡ false
-      back s = none (λ (x : Arc). opens x s a && member X (x .to)) (λ x e.
+      back s = no-open b a shut (λ (x : Arc). opens x s a && member X (x .to)) (λ x e.
           ap (λ (c : Bool). (eqb (x .from) s && c) && member X (x .to)) e ∙ ap (λ (c : Bool). c && member X (x .to)) (B.and-false (eqb (x .from) s)))
 
 -- ---- the tables of a side

@@ -9,7 +9,7 @@ use lib.ListN.{length, take, drop, getD}
 use lib.Seq.{slice}
 use Rattle.book.specs.Language.{Rules, any, upFrom}
 use Rattle.book.specs.Before.{high}
-use Rattle.book.proofs.Before.{or-none}
+use Rattle.book.proofs.Tests.{or-none}
 use Rattle.stretches.specs.Candidates.{candidate, someRule, lastOf, firstOf, longest, ruleOf, Stretch, fresh, cover, along, keep}
 use Rattle.stretches.specs.Output.{Mark, wordMarks, written, keptMarks, writtenAt, rewriting}
 use Rattle.stretches.specs.Account.{judge, verdictBy, lineFor, each, linesAt, account}

@@ -1,8 +1,9 @@
--- How long things are: an account has a line for each candidate and so many words a line; an output has an origin for each symbol. Assumes nothing.
+-- How long things are: an account has a line for each candidate and so many words a line; an output has an origin for each symbol. And the words of lines
+-- one after the other. Assumes nothing.
 use Prim.Native.Nat.{ℕ, zero, suc, _+_, _-_, _*_, _≤_, _<_}
-use mathlib.Core.List.{List, [], _∷_}
+use mathlib.Core.List.{List, [], _∷_, _++_, append-assoc}
 use mathlib.Core.Bool.{Bool, true, false, cond}
-use mathlib.Core.Path.{_≡_, refl, ap, ap₂, _∙_}
+use mathlib.Core.Path.{_≡_, refl, sym, ap, ap₂, _∙_}
 use native.Mathlib.Omega.{arith}
 use native.Mathlib.Nat.{mul-suc}
 use lib.ListN.{length, length-append}
@@ -72,6 +73,11 @@ pub words-length : (ls : List Line) → length (wordsIn ls) ≡ lineLength * len
 unfolding wordsIn
 words-length [] = refl
 words-length (l ∷ ls) = let a = length-append (lineWords l) (wordsIn ls) in let e = line-length l in let h = words-length ls in omega arith
+
+pub words-append : (a b : List Line) → wordsIn (a ++ b) ≡ wordsIn a ++ wordsIn b
+unfolding wordsIn
+words-append [] b = refl
+words-append (x ∷ a) b = ap (λ (r : List ℕ). lineWords x ++ r) (words-append a b) ∙ sym (append-assoc (lineWords x) (wordsIn a) (wordsIn b))
 
 pub symbols-length : (ms : List Mark) → length (symbolsOf ms) ≡ length ms
 symbols-length [] = refl

@@ -2,7 +2,7 @@
 use Prim.Native.Nat.{ℕ, zero, suc, _+_, _≤_, _<_}
 use mathlib.Core.List.{List, [], _∷_}
 use mathlib.Core.Bool.{Bool, true, false, cond}
-use mathlib.Core.Path.{_≡_, refl, subst, sym, ap, _∙_}
+use mathlib.Core.Path.{_≡_, refl, subst, sym, ap, ap₂, _∙_}
 use mathlib.Core.Logic.{_⊎_, inl, inr, ⊎-elim, by-cases}
 use native.Mathlib.Omega.{arith}
 use native.Mathlib.Decide.{ℕ-discrete}
@@ -27,6 +27,24 @@ last-snoc p a (suc n) d = rw (add-suc, ← suc-add) (last-snoc p (suc a) n (cond
 pub last-split : (p : ℕ → Bool) (a m n d : ℕ) → lastOf p (upFrom a (m + n)) d ≡ lastOf p (upFrom (a + m) n) (lastOf p (upFrom a m) d)
 last-split p a zero n d = rw (zero-add, add-zero)
 last-split p a (suc m) n d = rw (suc-add m n, add-suc a m, ← (suc-add a m)) (last-split p (suc a) m n (cond (p a) a d))
+
+-- two tests that agree there; and one that says of each number what the other says of it k further on
+pub last-same : (p q : ℕ → Bool) (a n d : ℕ) → ((x : ℕ) → a ≤ x → x < a + n → p x ≡ q x) → lastOf p (upFrom a n) d ≡ lastOf q (upFrom a n) d
+last-same p q a zero d h = refl
+last-same p q a (suc n) d h =
+    ap (λ (c : Bool). lastOf p (upFrom (suc a) n) (cond c a d)) (h a (omega arith) (omega arith))
+    ∙ last-same p q (suc a) n (cond (q a) a d) (λ x g k. h x (omega arith) (omega arith))
+
+pub last-later : (p q : ℕ → Bool) (k : ℕ) → ((x : ℕ) → p (k + x) ≡ q x) → (a n d : ℕ) → lastOf p (upFrom (k + a) n) (k + d) ≡ k + lastOf q (upFrom a n) d
+last-later p q k h a zero d = refl
+last-later p q k h a (suc n) d =
+    ap (λ (c : Bool). lastOf p (upFrom (suc (k + a)) n) (cond c (k + a) (k + d))) (h a)
+    ∙ ap₂ (λ (x y : ℕ). lastOf p (upFrom x n) y) (sym (add-suc k a)) (cond-later (q a))
+    ∙ last-later p q k h (suc a) n (cond (q a) a d)
+  where
+    cond-later : (c : Bool) → cond c (k + a) (k + d) ≡ k + cond c a d
+    cond-later true = refl
+    cond-later false = refl
 
 -- within which bounds it stands
 pub last-low : (p : ℕ → Bool) (lo a n d : ℕ) → lo ≤ d → lo ≤ a → lo ≤ lastOf p (upFrom a n) d

@@ -25,6 +25,9 @@ pub mod Rising
 pub mod Before
 pub mod Agreeing
 pub mod Batches
+-- Two races on one tape.
+pub mod Races
+pub mod RacesJoin
 -- Laws of the passes over a tape, position after position: that the sets find the candidates, and that what is found is what is taken.
 pub mod CandidateSets
 pub mod Meets

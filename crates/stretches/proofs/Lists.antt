@@ -3,12 +3,13 @@ use Prim.Native.Nat.{ℕ, zero, suc, _+_, _≤_, _<_}
 use mathlib.Core.List.{List, [], _∷_, _++_, map, map-append, append-nil, append-assoc, List·Memᴰ, List·Memᴰ·head, Memᴰ·append-left, Memᴰ·append-right}
 use mathlib.Core.List.{List·Memᴰ·append-cases, List·Memᴰ·eq-of-singleton}
 use mathlib.Core.Bool.{Bool, true, false, cond}
-use mathlib.Core.Path.{_≡_, refl, subst, ap, ap₂, _∙_}
+use mathlib.Core.Path.{_≡_, refl, subst, sym, ap, ap₂, _∙_}
 use mathlib.Core.Logic.{⊎-elim, _≢_, by-cases}
 use native.Mathlib.Omega.{arith}
-use native.Mathlib.Decide.{ℕ-discrete}
+use native.Mathlib.Decide.{ℕ-discrete, decLt}
 use native.Mathlib.Nat.{add-zero, add-suc, suc-add, zero-add}
-use lib.Dec.{T, eqb, eqb→eq}
+use borrow.Author.Tests.{lt-ltb, le-ltb, eq-eqb, ne-eqb}
+use lib.Dec.{T, eqb, ltb, eqb→eq}
 use Rattle.stretches.specs.Candidates.{keep}
 use Rattle.stretches.specs.Account.{Line, each}
 use Rattle.stretches.specs.Sentences.{takenLines}
@@ -26,6 +27,17 @@ hit false x y h = absurd h
 pub by-test {ℓ} : {A : Type ℓ} (P : A → Type 0) (test : Bool) (x y : A) → (test ≡ true → P x) → (test ≡ false → P y) → P (cond test x y)
 by-test P true x y f g = f refl
 by-test P false x y f g = g refl
+
+-- tests of two numbers, both k further on
+pub ltb-later : (k a b : ℕ) → ltb (k + a) (k + b) ≡ ltb a b
+ltb-later k a b = by-cases (decLt a b)
+    (λ h. lt-ltb (k + a) (k + b) (omega arith) ∙ sym (lt-ltb a b h))
+    (λ h. le-ltb (k + a) (k + b) (omega arith) ∙ sym (le-ltb a b (omega arith)))
+
+pub eqb-later : (k a b : ℕ) → eqb (k + a) (k + b) ≡ eqb a b
+eqb-later k a b = by-cases (ℕ-discrete a b)
+    (λ h. eq-eqb (k + a) (k + b) (omega arith) ∙ sym (eq-eqb a b h))
+    (λ h. ne-eqb (k + a) (k + b) (λ e. h (omega arith)) ∙ sym (ne-eqb a b h))
 
 -- number by number
 pub each-split {ℓ} : {A : Type ℓ} (f : ℕ → List A) (a m n : ℕ) → each f a (m + n) ≡ each f a m ++ each f (a + m) n
@@ -56,6 +68,10 @@ pub each-same {ℓ} : {A : Type ℓ} (f g : ℕ → List A) (a n : ℕ) → ((k 
 each-same f g a zero h = refl
 each-same f g a (suc n) h = ap₂ (λ x y. x ++ y) (h a (omega arith) (omega arith)) (each-same f g (suc a) n (λ k i j. h k (omega arith) (omega arith)))
 
+pub each-later {ℓ} : {A : Type ℓ} (f : ℕ → List A) (k a n : ℕ) → each f (k + a) n ≡ each (λ (i : ℕ). f (k + i)) a n
+each-later f k a zero = refl
+each-later f k a (suc n) = rw (← (add-suc k a)) (ap (λ x. f (k + a) ++ x) (each-later f k (suc a) n))
+
 pub keep-in {ℓ} : {A : Type ℓ} (c : Bool) (x y : A) → T c → x ≡ y → List·Memᴰ x (keep c y)
 keep-in true x y t e = List·Memᴰ·head e
 keep-in false x y t e = absurd t
@@ -71,6 +87,10 @@ keep-not false x h = refl
 pub keep-yes {ℓ} : {A : Type ℓ} (c : Bool) (x : A) → T c → keep c x ≡ x ∷ []
 keep-yes true x h = refl
 keep-yes false x h = absurd h
+
+pub keep-map {ℓ κ} : {A : Type ℓ} {B : Type κ} (h : A → B) (c : Bool) (x : A) → keep c (h x) ≡ map h (keep c x)
+keep-map h true x = refl
+keep-map h false x = refl
 
 -- only k says anything
 pub each-only {ℓ} : {A : Type ℓ} (f : ℕ → List A) (a n k : ℕ) → a ≤ k → k < a + n → ((x : ℕ) → a ≤ x → x < a + n → x ≢ k → f x ≡ []) → each f a n ≡ f k

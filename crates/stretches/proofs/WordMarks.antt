@@ -1,6 +1,6 @@
 -- The symbols and the origins of what is written; of a replacement its length, its symbols, and the origin of each. Assumes nothing.
 use Prim.Native.Nat.{ℕ, suc, _+_, _≤_, _<_}
-use mathlib.Core.List.{List, [], _∷_, _++_, List·Memᴰ, List·Memᴰ·head, List·Memᴰ·tail}
+use mathlib.Core.List.{List, [], _∷_, _++_, map, List·Memᴰ, List·Memᴰ·head, List·Memᴰ·tail}
 use mathlib.Core.Path.{_≡_, refl, ap, ap₂, _∙_}
 use mathlib.Core.Logic.{by-cases}
 use mathlib.Core.Bool.{Bool, true, false, cond, _&&_}
@@ -11,6 +11,7 @@ use lib.Dec.{eqb, ltb}
 use lib.ListN.{length, getD, replicate}
 use Rattle.stretches.specs.Output.{Mark, marks, symbolsOf, originsOf, lastPosition, wordOrigin, marksFrom, wordMarks}
 use Rattle.stretches.specs.Sentences.{wordOrigins, Spelled}
+use Rattle.stretches.specs.Races.{later}
 
 pub origins-append : (xs ys : List Mark) → originsOf (xs ++ ys) ≡ originsOf xs ++ originsOf ys
 origins-append [] ys = refl
@@ -73,6 +74,34 @@ module _ (n i : ℕ) where
 
 pub marks-own : (w : List ℕ) (i : ℕ) → wordMarks w i i ≡ marks w i
 marks-own w i = from-own (length w) i 0 w
+
+-- a stretch, a symbol that is k further on: so are its origins, and the symbols are the same
+module _ (n k i j : ℕ) where
+  origin-later : (x : ℕ) → wordOrigin n (k + i) (k + j) x ≡ k + wordOrigin n i j x
+  origin-later x = go (ltb 1 n && eqb (suc x) n)
+    where
+      go : (c : Bool) → cond c (lastPosition (k + i) (k + j)) (k + i) ≡ k + cond c (lastPosition i j) i
+      go true = omega arith
+      go false = refl
+
+  from-later : (x : ℕ) (w : List ℕ) → marksFrom n (k + i) (k + j) x w ≡ map (later k) (marksFrom n i j x w)
+  from-later x [] = refl
+  from-later x (s ∷ w) = ap₂ (λ (o : ℕ) (ms : List Mark). record { symbol = s; origin = o } ∷ ms) (origin-later x) (from-later (suc x) w)
+
+pub word-later : (w : List ℕ) (k i j : ℕ) → wordMarks w (k + i) (k + j) ≡ map (later k) (wordMarks w i j)
+word-later w k i j = from-later (length w) k i j 0 w
+
+pub marks-later : (xs : List ℕ) (k i : ℕ) → marks xs (k + i) ≡ map (later k) (marks xs i)
+marks-later [] k i = refl
+marks-later (x ∷ xs) k i = ap (λ (ms : List Mark). record { symbol = x; origin = k + i } ∷ ms) (marks-later xs k i)
+
+pub symbols-later : (k : ℕ) (ms : List Mark) → symbolsOf (map (later k) ms) ≡ symbolsOf ms
+symbols-later k [] = refl
+symbols-later k (m ∷ ms) = ap (λ (l : List ℕ). m .symbol ∷ l) (symbols-later k ms)
+
+pub origins-later : (k : ℕ) (ms : List Mark) → originsOf (map (later k) ms) ≡ map (λ (o : ℕ). k + o) (originsOf ms)
+origins-later k [] = refl
+origins-later k (m ∷ ms) = ap (λ (l : List ℕ). (k + m .origin) ∷ l) (origins-later k ms)
 
 -- each symbol of a replacement with its origin
 module _ (w : List ℕ) (i j : ℕ) (m : Mark) where

@@ -88,7 +88,7 @@ pub record Accounted : Type 0 where
   pub row : Row
   pub lines : List (List ℕ)
 
-abbrev with-lines : Row → List (List ℕ) → Accounted
+abbrev pub with-lines : Row → List (List ℕ) → Accounted
 with-lines x ls = record { row = x; lines = ls }
 
 -- what the book's bytes give to the tape
