@@ -3,6 +3,7 @@
 use std::fmt::Debug;
 use std::io::{self, Read};
 
+use crate::account::{Line, WORDS_A_LINE};
 use crate::call::{read_bytes, read_longs, read_words, Call, Lane, Operation};
 
 /// Document 02, No. 2: "lane records, each with the start and length of its tape in one common buffer. Each record gets
@@ -112,6 +113,22 @@ impl Answer {
         Ok(Answer { operation, reply: head[1], place: numbers[0], counts, part, lent })
     }
 
+    /// REWRITE alone: the output symbols written.
+    pub fn symbols(&self) -> &[u8] {
+        front(&self.lent.out, self.counts[0])
+    }
+
+    /// REWRITE alone: their origins.
+    pub fn origins(&self) -> &[u16] {
+        front(&self.lent.origins, self.counts[0])
+    }
+
+    /// ACCOUNT alone: the lines written.
+    pub fn account(&self) -> Vec<Line> {
+        let lines = self.lent.lines.chunks_exact(WORDS_A_LINE).map(|line| line.try_into().expect("six words"));
+        lines.take(self.counts[0] as usize).collect()
+    }
+
     /// The first difference in words, or nothing.
     pub fn difference(&self, other: &Answer) -> Option<String> {
         let numbers = |answer: &Answer| {
@@ -131,6 +148,11 @@ impl Answer {
             .or_else(|| first_element("lines", &self.lent.lines, &other.lent.lines))
             .or_else(|| first_element("lanes", &self.lent.lanes, &other.lent.lanes))
     }
+}
+
+/// So many elements; all of them if a wrong answer counts more.
+fn front<T>(buffer: &[T], count: u64) -> &[T] {
+    &buffer[..buffer.len().min(count as usize)]
 }
 
 fn first_element<T: PartialEq + Debug>(buffer: &str, mine: &[T], theirs: &[T]) -> Option<String> {

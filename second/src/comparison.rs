@@ -31,6 +31,17 @@ pub fn compare(door: &Command, calls: &[Call]) -> io::Result<Comparison> {
     Ok(Comparison { difference, expected })
 }
 
+/// The door's answers to these calls.
+pub fn answers(door: &Command, calls: &[Call]) -> io::Result<Vec<Answer>> {
+    let (answers, status) = door.run(calls.iter().flat_map(Call::to_bytes).collect())?;
+    let mut rest = &answers[..];
+    let answers = calls.iter().map(|call| Answer::read(call, &mut rest)).collect::<io::Result<Vec<_>>>()?;
+    match status.success() && rest.is_empty() {
+        true => Ok(answers),
+        false => Err(io::Error::other(format!("the door ended with {status}, {} bytes after its answers", rest.len()))),
+    }
+}
+
 fn first_difference(calls: &[Call], expected: &[Answer], answers: &[u8], status: ExitStatus) -> Option<Difference> {
     let mut rest = answers;
     for (at, (call, expected)) in calls.iter().zip(expected).enumerate() {

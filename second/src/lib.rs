@@ -37,6 +37,7 @@ pub mod operations;
 pub mod output;
 pub mod peer;
 pub mod program;
+pub mod races;
 pub mod reading;
 pub mod record;
 pub mod rewrite;

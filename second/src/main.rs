@@ -12,6 +12,8 @@ use second::generate::calls::call;
 use second::hex;
 use second::openfst::comparison as openfst;
 use second::peer::comparison::{compare, PEERS};
+use second::races::case::Case;
+use second::races::comparison as races;
 use second::reading::{Reading, Wrong};
 use second::serve;
 
@@ -23,6 +25,8 @@ second one HEX [--door \"CMD ARGS\"]              repeat one call, given as the 
 second tapes HEX [--pads \"CMD ARGS\"]            repeat one input of the program, given as its bytes
 second peer NAME SEED COUNT                     compare COUNT books with foma or hfst (the script peers does it)
 second openfst SEED COUNT [--door \"CMD ARGS\"]   compare COUNT texts of OpenFst with the door (the script openfst does it)
+second races SEED COUNT [--door \"CMD ARGS\"]     compare COUNT joined tapes with their two tapes alone, and all with the reference
+second race HEX [--door \"CMD ARGS\"]             repeat one joined tape, given as the bytes of its six requests
 second serve [--wrong NAME]                     answer requests as the door does
 second pads [--wrong NAME]                      behave as the program does
 second wrong                                    list the wrong readings
@@ -91,6 +95,8 @@ fn run(arguments: &Arguments) -> io::Result<bool> {
             compare(peer, seed_of(seed)?, number(count)?)
         }
         ["openfst", seed, count] => openfst::compare(&arguments.door, seed_of(seed)?, number(count)?),
+        ["races", seed, count] => races::compare(&arguments.door, seed_of(seed)?, number(count)?),
+        ["race", digits] => races::one(&arguments.door, &Case::read(&bytes(digits)?)?),
         ["wrong"] => {
             Wrong::ALL.iter().for_each(|wrong| println!("{:26} {}", wrong.name(), wrong.says()));
             Ok(true)

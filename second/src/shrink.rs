@@ -10,7 +10,7 @@ use crate::workspace;
 pub type FirstFailing<'a> = &'a mut dyn FnMut(&[Call]) -> Option<usize>;
 
 /// How many calls are tried at a time, and how many steps are taken at most.
-const TRIED_AT_ONCE: usize = 64;
+pub const TRIED_AT_ONCE: usize = 64;
 const MOST_STEPS: usize = 400;
 
 /// Makes a failing call smaller, step by step, as long as something smaller still fails.
@@ -205,7 +205,7 @@ pub fn parts(length: usize) -> Vec<(usize, usize)> {
 }
 
 /// A list without a part of it; then with one element made 0.
-fn smaller_lists<T: Copy + Default + PartialEq>(list: &[T]) -> Vec<Vec<T>> {
+pub fn smaller_lists<T: Copy + Default + PartialEq>(list: &[T]) -> Vec<Vec<T>> {
     let left_out = |(from, to): (usize, usize)| [&list[..from], &list[to..]].concat();
     let mut smaller: Vec<Vec<T>> = parts(list.len()).into_iter().map(left_out).collect();
     for at in (0..list.len().min(TRIED_AT_ONCE)).filter(|at| list[*at] != T::default()) {
@@ -217,7 +217,7 @@ fn smaller_lists<T: Copy + Default + PartialEq>(list: &[T]) -> Vec<Vec<T>> {
 }
 
 /// A book without some of its records or bytes; then with a record made plainer.
-fn smaller_books(book: &[u8]) -> Vec<Vec<u8>> {
+pub fn smaller_books(book: &[u8]) -> Vec<Vec<u8>> {
     let pieces = record::pieces(book);
     let few = pieces.len().min(TRIED_AT_ONCE);
     let mut smaller: Vec<Vec<u8>> = whole_rules(&pieces).into_iter().map(|part| without(&pieces, part)).collect();

@@ -5,7 +5,6 @@ use super::{accounts, buffers, damage, heats, imported, imports, limits, rules, 
 use crate::admission::LONGEST_TAPE;
 use crate::call::{Call, Operation};
 use crate::chance::Chance;
-use crate::draft;
 
 pub fn call(seed: u64, number: u64) -> Call {
     let chance = &mut Chance::of(seed, number);
@@ -33,10 +32,7 @@ fn ordinary_call(chance: &mut Chance) -> Call {
     let mut rules = rules::rules(&alphabet, chance);
     // So that an old book meets a new tape, and a new book an old one.
     let of_tape = if chance.one_in(6) { Alphabet::of(chance) } else { alphabet.clone() };
-    let records = match chance.one_in(8) {
-        false => draft::mixed_records(&rules, chance),
-        true => imported::with_imported_part(&mut rules, &alphabet, chance),
-    };
+    let records = imported::records_of(&mut rules, &alphabet, chance);
     let damaged = match operation {
         Operation::Check => chance.below(10) < 8,
         // So that too many lanes often meet a damaged book.

@@ -14,6 +14,7 @@ pub mod imports;
 pub mod limits;
 pub mod lines;
 pub mod parts;
+pub mod races;
 pub mod rules;
 pub mod spoilt_texts;
 pub mod tapes;

@@ -3,11 +3,11 @@
 use std::io;
 
 use super::case::{Case, Place};
-use crate::account::WORDS_A_LINE;
 use crate::answer::Answer;
 use crate::call::Call;
 use crate::chance::Chance;
 use crate::command::Command;
+use crate::comparison::answers;
 use crate::digits;
 use crate::operations;
 use crate::reading::Reading;
@@ -66,17 +66,6 @@ fn answered(door: &Command, cases: &[Case]) -> io::Result<Vec<Vec<Answered>>> {
     Ok(answered)
 }
 
-/// The door's answers to these calls.
-fn answers(door: &Command, calls: &[Call]) -> io::Result<Vec<Answer>> {
-    let (answers, status) = door.run(calls.iter().flat_map(Call::to_bytes).collect())?;
-    let mut rest = &answers[..];
-    let answers = calls.iter().map(|call| Answer::read(call, &mut rest)).collect::<io::Result<Vec<_>>>()?;
-    match status.success() && rest.is_empty() {
-        true => Ok(answers),
-        false => Err(io::Error::other(format!("the door ended with {status}, {} bytes after its answers", rest.len()))),
-    }
-}
-
 /// Texts by what came of them, and what their accounts had.
 #[derive(Default)]
 struct Tally {
@@ -129,8 +118,7 @@ impl Tally {
         self.lines[part] += wanted.len() as u64;
         self.without[part] += (places - wanted.len()) as u64;
         let wanted: Vec<[u16; 3]> = wanted.iter().map(|(i, j)| [place.rule(), *i as u16, *j as u16]).collect();
-        let lines = answer.lent.lines.chunks(WORDS_A_LINE).take(answer.counts[0] as usize);
-        let lines: Vec<[u16; 3]> = lines.map(|line| [line[0], line[1], line[2]]).collect();
+        let lines: Vec<[u16; 3]> = answer.account().iter().map(|line| [line[0], line[1], line[2]]).collect();
         let differs = answer.reply != 0 || lines != wanted;
         differs.then(|| {
             let (tape, reply) = (digits::shown(&call.tape), answer.reply);

@@ -1,0 +1,131 @@
+//! `second races`: joined tapes through a door, compared with their two tapes alone, and all of them with the reference.
+
+use std::io;
+use std::slice::from_ref;
+
+use super::case::{on_arc, on_no_arc, Case, CALLS};
+use super::conditions::{Met, CONDITIONS};
+use super::law;
+use crate::answer::Answer;
+use crate::book;
+use crate::call::Call;
+use crate::command::Command;
+use crate::comparison::{answers, Difference};
+use crate::digits;
+use crate::generate::races::case;
+use crate::hex;
+use crate::operations;
+use crate::reading::Reading;
+use crate::shrink::{smaller_books, smaller_lists, TRIED_AT_ONCE};
+
+/// Cases put to one run of the door.
+const CASES_A_RUN: u64 = 100;
+/// A run of this many cases must meet every condition.
+const WHOLE_RUN: u64 = 300;
+
+/// Compares `count` cases; true if all agree. The last line printed says how many were compared.
+pub fn compare(door: &Command, seed: u64, count: u64) -> io::Result<bool> {
+    println!("seed {seed}, {count} cases, door: {}", door.line());
+    let mut met = [0; CONDITIONS.len()];
+    for first in (0..count).step_by(CASES_A_RUN as usize) {
+        let numbers = first..count.min(first + CASES_A_RUN);
+        let cases: Vec<Case> = numbers.map(|number| case(seed, number, on_arc)).collect();
+        match answered(door, &cases) {
+            Ok(answers) => cases.iter().zip(answers).for_each(|(case, answers)| add(&mut met, case, &answers)),
+            Err(Difference { at, words }) => {
+                let passed = first + at as u64;
+                println!("case {passed} of seed {seed} differs: {words}");
+                report_smallest(door, cases[at].clone());
+                println!("{passed} passed, 1 failed");
+                return Ok(false);
+            }
+        }
+    }
+    Ok(report(&met, count))
+}
+
+/// The door's answers case by case; or the first case on which it differs, and how.
+fn answered(door: &Command, cases: &[Case]) -> Result<Vec<Vec<Answer>>, Difference> {
+    let calls: Vec<Call> = cases.iter().flat_map(Case::calls).collect();
+    let answers = match answers(door, &calls) {
+        Ok(answers) => answers,
+        Err(error) => return Err(stopping(door, cases, format!("no whole answers ({error})"))),
+    };
+    let answers: Vec<Vec<Answer>> = answers.chunks(CALLS).map(<[Answer]>::to_vec).collect();
+    let differences = cases.iter().zip(&answers).map(|(case, answers)| difference(case, answers));
+    match differences.enumerate().find_map(|(at, words)| Some(Difference { at, words: words? })) {
+        Some(difference) => Err(difference),
+        None => Ok(answers),
+    }
+}
+
+/// The first of these cases that alone keeps the door from answering, or the first of all.
+fn stopping(door: &Command, cases: &[Case], words: String) -> Difference {
+    let alone = |case: &Case| if cases.len() > 1 { answered(door, from_ref(case)).err() } else { None };
+    let stopping = cases.iter().enumerate().find_map(|(at, case)| Some(Difference { at, ..alone(case)? }));
+    stopping.unwrap_or(Difference { at: 0, words })
+}
+
+/// How the answers break the law, or differ from the reference's, if they do.
+fn difference(case: &Case, answers: &[Answer]) -> Option<String> {
+    let differs = |(call, answer): (&Call, &Answer)| {
+        let words = operations::answer(call, Reading::TRUE).difference(answer)?;
+        Some(format!("{} of tape {}: {words}", call.operation.name(), digits::shown(&call.tape)))
+    };
+    law::difference(case, answers).or_else(|| case.calls().iter().zip(answers).find_map(differs))
+}
+
+fn add(met: &mut [u64; CONDITIONS.len()], case: &Case, answers: &[Answer]) {
+    let Some(this) = Met::of(case, answers) else { return };
+    met.iter_mut().zip(CONDITIONS).for_each(|(count, (_, holds))| *count += u64::from(holds(&this)));
+}
+
+/// Prints what the cases had; true if nothing was missed.
+fn report(met: &[u64; CONDITIONS.len()], count: u64) -> bool {
+    met.iter().zip(CONDITIONS).for_each(|(count, (words, _))| println!("{count:>6} with {words}"));
+    let is_missed = |count: &&u64| **count == 0;
+    let missed = if count >= WHOLE_RUN { met.iter().filter(is_missed).count() } else { 0 };
+    if missed > 0 {
+        println!("never met: what has a 0 here");
+    }
+    println!("{count} passed, {missed} failed");
+    missed == 0
+}
+
+fn report_smallest(door: &Command, failing: Case) {
+    let mut smallest = failing;
+    while let Some(next) = first_failing(door, &smaller(&smallest)) {
+        smallest = next;
+    }
+    let words = answered(door, from_ref(&smallest)).err().map_or(String::new(), |difference| difference.words);
+    println!("smallest case found: {}{words}", smallest.in_words());
+    let requests: Vec<u8> = smallest.calls().iter().flat_map(Call::to_bytes).collect();
+    println!("repeat it with: second race --door \"{}\" {}", door.line(), hex::of(&requests));
+}
+
+fn first_failing(door: &Command, cases: &[Case]) -> Option<Case> {
+    let failing = |cases: &[Case]| answered(door, cases).err().map(|difference| cases[difference.at].clone());
+    cases.chunks(TRIED_AT_ONCE).find_map(failing)
+}
+
+/// Cases with a smaller book or tape, as far as the law speaks of them.
+fn smaller(case: &Case) -> Vec<Case> {
+    let books = smaller_books(&case.book).into_iter().map(|book| Case { book, ..case.clone() });
+    let firsts = smaller_lists(&case.first).into_iter().map(|first| Case { first, ..case.clone() });
+    let seconds = smaller_lists(&case.second).into_iter().map(|second| Case { second, ..case.clone() });
+    let is_unused = |case: &Case| {
+        let book = book::read(&case.book, Reading::TRUE);
+        book.is_ok_and(|book| on_no_arc(&book, on_arc).contains(&case.marker))
+    };
+    let lent = books.chain(firsts).chain(seconds).filter(is_unused).map(Case::lent_again);
+    lent.filter(Case::is_accepted).collect()
+}
+
+/// `second race`: one case again.
+pub fn one(door: &Command, case: &Case) -> io::Result<bool> {
+    print!("{}", case.in_words());
+    let failed =
+        answered(door, from_ref(case)).map_err(|difference| println!("differs: {}", difference.words)).is_err();
+    println!("{} passed, {} failed", u8::from(!failed), u8::from(failed));
+    Ok(!failed)
+}
