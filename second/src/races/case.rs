@@ -124,7 +124,7 @@ impl Case {
             (digits::shown(&[self.marker]), [&self.first, &self.second].map(|tape| digits::shown(tape)));
         let joined = Call { lengths: self.lengths[0], ..self.call(Operation::Rewrite, &self.joined()) };
         format!(
-            "and ACCOUNT: {}  marker {marker} at {}\n  first tape: {}, {first:?}\n  second tape: {}, {second:?}\n",
+            "ACCOUNT and {}  marker {marker} at {}\n  first tape: {}, {first:?}\n  second tape: {}, {second:?}\n",
             joined.in_words(),
             self.first.len(),
             tapes[0],

@@ -4,7 +4,7 @@ use std::io;
 use std::slice::from_ref;
 
 use super::case::{on_arc, on_no_arc, Case, CALLS};
-use super::conditions::{Met, CONDITIONS};
+use super::conditions::{Tally, WHOLE_RUN};
 use super::law;
 use crate::answer::Answer;
 use crate::book;
@@ -20,18 +20,16 @@ use crate::shrink::{smaller_books, smaller_lists, TRIED_AT_ONCE};
 
 /// Cases put to one run of the door.
 const CASES_A_RUN: u64 = 100;
-/// A run of this many cases must meet every condition.
-const WHOLE_RUN: u64 = 300;
 
 /// Compares `count` cases; true if all agree. The last line printed says how many were compared.
 pub fn compare(door: &Command, seed: u64, count: u64) -> io::Result<bool> {
     println!("seed {seed}, {count} cases, door: {}", door.line());
-    let mut met = [0; CONDITIONS.len()];
+    let mut tally = Tally::default();
     for first in (0..count).step_by(CASES_A_RUN as usize) {
         let numbers = first..count.min(first + CASES_A_RUN);
         let cases: Vec<Case> = numbers.map(|number| case(seed, number, on_arc)).collect();
         match answered(door, &cases) {
-            Ok(answers) => cases.iter().zip(answers).for_each(|(case, answers)| add(&mut met, case, &answers)),
+            Ok(answers) => cases.iter().zip(answers).for_each(|(case, answers)| tally.add(case, &answers)),
             Err(Difference { at, words }) => {
                 let passed = first + at as u64;
                 println!("case {passed} of seed {seed} differs: {words}");
@@ -41,7 +39,11 @@ pub fn compare(door: &Command, seed: u64, count: u64) -> io::Result<bool> {
             }
         }
     }
-    Ok(report(&met, count))
+    print!("{}", tally.table());
+    let never_met = if count >= WHOLE_RUN { tally.never_met() } else { Vec::new() };
+    never_met.iter().for_each(|what| println!("never met: {what}"));
+    println!("{count} passed, {} failed", never_met.len());
+    Ok(never_met.is_empty())
 }
 
 /// The door's answers case by case; or the first case on which it differs, and how.
@@ -73,23 +75,6 @@ fn difference(case: &Case, answers: &[Answer]) -> Option<String> {
         Some(format!("{} of tape {}: {words}", call.operation.name(), digits::shown(&call.tape)))
     };
     law::difference(case, answers).or_else(|| case.calls().iter().zip(answers).find_map(differs))
-}
-
-fn add(met: &mut [u64; CONDITIONS.len()], case: &Case, answers: &[Answer]) {
-    let Some(this) = Met::of(case, answers) else { return };
-    met.iter_mut().zip(CONDITIONS).for_each(|(count, (_, holds))| *count += u64::from(holds(&this)));
-}
-
-/// Prints what the cases had; true if nothing was missed.
-fn report(met: &[u64; CONDITIONS.len()], count: u64) -> bool {
-    met.iter().zip(CONDITIONS).for_each(|(count, (words, _))| println!("{count:>6} with {words}"));
-    let is_missed = |count: &&u64| **count == 0;
-    let missed = if count >= WHOLE_RUN { met.iter().filter(is_missed).count() } else { 0 };
-    if missed > 0 {
-        println!("never met: what has a 0 here");
-    }
-    println!("{count} passed, {missed} failed");
-    missed == 0
 }
 
 fn report_smallest(door: &Command, failing: Case) {
