@@ -6,7 +6,8 @@
 //! `output`, `account`, `sets`, `numbering`, `sides`, `workspace`, `admission`, `room`, `rewrite`, `show`, `lane`, `heat`,
 //! `text`, `import`, `operations`, `digits`, `program`; `agreement` says where `fast` stands in for it. Beside it stand
 //! the random calls (`generate`), the driving of another program (`call`, `answer`, `command`, `comparison`), the search
-//! for a smallest failing case (`shrink`), and the commands (`check`, `check_program`, `serve`).
+//! for a smallest failing case (`shrink`), the law of two races on one tape (`races`: document 02, No. 8), and the
+//! commands (`check`, `check_program`, `serve`).
 
 pub mod account;
 pub mod admission;

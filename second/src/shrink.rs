@@ -10,7 +10,7 @@ use crate::workspace;
 pub type FirstFailing<'a> = &'a mut dyn FnMut(&[Call]) -> Option<usize>;
 
 /// How many calls are tried at a time, and how many steps are taken at most.
-pub const TRIED_AT_ONCE: usize = 64;
+const TRIED_AT_ONCE: usize = 64;
 const MOST_STEPS: usize = 400;
 
 /// Makes a failing call smaller, step by step, as long as something smaller still fails.

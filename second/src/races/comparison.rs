@@ -16,10 +16,11 @@ use crate::generate::races::case;
 use crate::hex;
 use crate::operations;
 use crate::reading::Reading;
-use crate::shrink::{smaller_books, smaller_lists, TRIED_AT_ONCE};
+use crate::shrink::{smaller_books, smaller_lists};
 
-/// Cases put to one run of the door.
+/// Cases put to one run of the door, and smaller ones that are tried at a time.
 const CASES_A_RUN: u64 = 100;
+const TRIED_AT_ONCE: usize = 8;
 
 /// Compares `count` cases; true if all agree. The last line printed says how many were compared.
 pub fn compare(door: &Command, seed: u64, count: u64) -> io::Result<bool> {
@@ -33,7 +34,7 @@ pub fn compare(door: &Command, seed: u64, count: u64) -> io::Result<bool> {
             Err(Difference { at, words }) => {
                 let passed = first + at as u64;
                 println!("case {passed} of seed {seed} differs: {words}");
-                report_smallest(door, cases[at].clone());
+                report_smallest(door, cases[at].clone(), words);
                 println!("{passed} passed, 1 failed");
                 return Ok(false);
             }
@@ -77,24 +78,32 @@ fn difference(case: &Case, answers: &[Answer]) -> Option<String> {
     law::difference(case, answers).or_else(|| case.calls().iter().zip(answers).find_map(differs))
 }
 
-fn report_smallest(door: &Command, failing: Case) {
+/// A case that fails only after others is printed as it stands.
+fn report_smallest(door: &Command, failing: Case, words: String) {
     let mut smallest = failing;
-    while let Some(next) = first_failing(door, &smaller(&smallest)) {
+    while let Some(next) = first_failing(door, smaller(&smallest)) {
         smallest = next;
     }
-    let words = answered(door, from_ref(&smallest)).err().map_or(String::new(), |difference| difference.words);
+    let words = answered(door, from_ref(&smallest)).err().map_or(words, |difference| difference.words);
     println!("smallest case found: {}{words}", smallest.in_words());
     let requests: Vec<u8> = smallest.calls().iter().flat_map(Call::to_bytes).collect();
     println!("repeat it with: second race --door \"{}\" {}", door.line(), hex::of(&requests));
 }
 
-fn first_failing(door: &Command, cases: &[Case]) -> Option<Case> {
-    let failing = |cases: &[Case]| answered(door, cases).err().map(|difference| cases[difference.at].clone());
-    cases.chunks(TRIED_AT_ONCE).find_map(failing)
+fn first_failing(door: &Command, mut cases: impl Iterator<Item = Case>) -> Option<Case> {
+    loop {
+        let tried: Vec<Case> = cases.by_ref().take(TRIED_AT_ONCE).collect();
+        if tried.is_empty() {
+            return None;
+        }
+        if let Err(difference) = answered(door, &tried) {
+            return Some(tried[difference.at].clone());
+        }
+    }
 }
 
 /// Cases with a smaller book or tape, as far as the law speaks of them.
-fn smaller(case: &Case) -> Vec<Case> {
+fn smaller(case: &Case) -> impl Iterator<Item = Case> + '_ {
     let books = smaller_books(&case.book).into_iter().map(|book| Case { book, ..case.clone() });
     let firsts = smaller_lists(&case.first).into_iter().map(|first| Case { first, ..case.clone() });
     let seconds = smaller_lists(&case.second).into_iter().map(|second| Case { second, ..case.clone() });
@@ -103,7 +112,7 @@ fn smaller(case: &Case) -> Vec<Case> {
         book.is_ok_and(|book| on_no_arc(&book, on_arc).contains(&case.marker))
     };
     let lent = books.chain(firsts).chain(seconds).filter(is_unused).map(Case::lent_again);
-    lent.filter(Case::is_accepted).collect()
+    lent.filter(Case::is_accepted)
 }
 
 /// `second race`: one case again.

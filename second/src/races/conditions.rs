@@ -9,8 +9,10 @@ use crate::reading::Reading;
 /// A run of this many cases must meet every condition.
 pub const WHOLE_RUN: u64 = 300;
 
-/// Each condition in words, and whether a case has it.
-const CONDITIONS: [(&str, fn(&Met) -> bool); 8] = [
+/// A condition in words, and whether a case has it.
+type Condition = (&'static str, fn(&Met) -> bool);
+
+const CONDITIONS: [Condition; 8] = [
     ("a stretch taken in both tapes", |met| !met.taken.contains(&0)),
     ("a word put in at the very end of the first tape", |met| met.puts_in(0, met.case.first.len())),
     ("a word put in at the very front of the second tape", |met| met.puts_in(1, 0)),
@@ -84,7 +86,7 @@ impl Tally {
 
     /// A line for each condition.
     pub fn table(&self) -> String {
-        let line = |(count, (words, _)): (&u64, (&str, _))| format!("{count:>6} with {words}\n");
+        let line = |(count, (words, _)): (&u64, Condition)| format!("{count:>6} with {words}\n");
         self.counts.iter().zip(CONDITIONS).map(line).collect()
     }
 }
