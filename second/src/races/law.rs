@@ -54,7 +54,6 @@ fn account(case: &Case, joined: &Answer, [first, second]: [&Answer; 2]) -> Answe
 }
 
 /// A buffer with this written over its front.
-fn over<T: Copy>(buffer: &[T], mut front: Vec<T>) -> Vec<T> {
-    front.extend(buffer.iter().skip(front.len()).copied().collect::<Vec<T>>());
-    front
+fn over<T: Copy>(buffer: &[T], front: Vec<T>) -> Vec<T> {
+    [&front[..], buffer.get(front.len()..).unwrap_or_default()].concat()
 }
