@@ -3,9 +3,8 @@
  * It prints of each lane what the program pads prints of a tape, but for the account: W and O, or X with the lane's reply and place. A call
  * that is refused as a whole, as one of eleven lanes is, prints one X. Status 2: the command was not understood, or the book could not be read. */
 #include <stdio.h>
-#include <stdlib.h>
 
-#include "house.h"
+#include "book.h"
 #include "qafrendi.h"
 
 /* One lane more than a heat may have is kept, for the call to refuse; and one symbol more than a tape may have, for the lane's refusal. */
@@ -14,9 +13,6 @@ enum { LANES = QAFRENDI_MOST_LANES + 1, LONGEST = QAFRENDI_LONGEST_TAPE + 1 };
 /* The book may put in a word of eight symbols before every symbol of every lane and at its end, and keep the symbols: 9 * 4,096 + 8 for each. */
 enum { ROOM = QAFRENDI_MOST_LANES * QAFRENDI_LONGEST_OUT };
 
-enum { BOOK = 65536 }; /* bytes of a book from a file */
-
-static uint8_t book[BOOK + 1]; /* one more, for a file that has more */
 static uint8_t tapes[LANES * LONGEST];
 static qafrendi_lane lanes[LANES];
 static uint8_t rows[QAFRENDI_ROW_BYTES];
@@ -25,33 +21,12 @@ static uint8_t scratch[QAFRENDI_SCRATCH];
 static uint8_t out[ROOM];
 static uint16_t origins[ROOM];
 
-/* Of the symbols, from 0 on. */
-static const char digits[QAFRENDI_SYMBOLS + 1] = "0123456789abcdefghijklmnopqrstuv";
-
 /* The symbol of a character; one that is none, QAFRENDI_SYMBOLS, where it is no digit. */
 static uint8_t symbol(int character)
 {
     uint8_t number = 0;
     while (number < QAFRENDI_SYMBOLS && digits[number] != character) number++;
     return number;
-}
-
-static void stop(const char *what, const char *why)
-{
-    fprintf(stderr, "heat: %s: %s\n", what, why);
-    exit(2);
-}
-
-/* The book of a file; its length. */
-static size_t read_book(const char *name)
-{
-    FILE *file = fopen(name, "rb");
-    if (!file) stop(name, "cannot be read");
-    size_t length = fread(book, 1, sizeof book, file);
-    if (ferror(file)) stop(name, "cannot be read");
-    if (BOOK < length) stop(name, "too long for a book");
-    fclose(file);
-    return length;
 }
 
 /* The lanes on standard input, one after the other in the common buffer; how many there are. The rest of a line that is too long is left out. */
@@ -71,12 +46,11 @@ static size_t read_lanes(void)
 
 int main(int arguments, char **words)
 {
-    if (2 < arguments) stop("usage", "heat [BOOK] < tapes");
-    const uint8_t *rules = arguments == 2 ? book : house;
-    size_t length = arguments == 2 ? read_book(words[1]) : sizeof house;
+    if (2 < arguments) stop("heat", "usage", "heat [BOOK] < tapes");
+    book rules = read_book("heat", words[1]);
     size_t count = read_lanes();
     qafrendi_heated h = qafrendi_heat(
-        rules, length, tapes, sizeof tapes, lanes, count, rows, QAFRENDI_ROW_BYTES, sets, QAFRENDI_SET_WORDS, scratch, QAFRENDI_SCRATCH,
+        rules.bytes, rules.length, tapes, sizeof tapes, lanes, count, rows, QAFRENDI_ROW_BYTES, sets, QAFRENDI_SET_WORDS, scratch, QAFRENDI_SCRATCH,
         out, ROOM, origins, ROOM);
     if (h.reply != QAFRENDI_ACCEPTED) {
         printf("X %u %zu\n", h.reply, h.place);
