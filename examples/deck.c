@@ -1,5 +1,5 @@
-/* The house book and the lane-four wave through the C face: every function once, with what three refusals leave, the times of a touch, a lap mark that is
- * put in, and a touch from a drawing. */
+/* The house book and the lane-four wave through the C face: every function once, with what three refusals leave, two races on one tape, the times of a touch,
+ * a lap mark that is put in, and a touch from a drawing. */
 #include <stdio.h>
 #include <stdlib.h>
 
@@ -61,6 +61,41 @@ static void print_times(qafrendi_rewritten r, const double *seconds)
     for (size_t k = 0; k < r.length; k++)
         printf(" %d at %.2f", out[k], seconds[origins[k]]);
     printf("\n");
+}
+
+/* the output from `from` up to `to`, its origins as positions of the race that begins at `first` */
+static void print_race(int race, size_t from, size_t to, size_t first)
+{
+    printf("race %d: out", race);
+    for (size_t k = from; k < to; k++)
+        printf(" %d from %zu", out[k], origins[k] - first);
+    printf("\n");
+}
+
+/* Two races on one tape, with a marker between them that no arc of the house book is open to: each gets what it would get alone. */
+static void print_races(void)
+{
+    enum { MARKER = 6, MARKED = 5, SECOND = MARKED + 1 }; /* the marker, its position, and where the second race begins */
+    static const uint8_t races[] = {1, 2, 4, 0, 0, MARKER, 2, 4, 0, 0};
+    qafrendi_rewritten w = rewrite(races, sizeof races, OUT);
+    say("races", w.reply, QAFRENDI_ACCEPTED, w.place);
+    print_out(w);
+
+    /* the marker is the last symbol with its position: what a book puts in at the end of the first race has that origin too, and stands before it */
+    size_t cut = w.length - 1;
+    while (origins[cut] != MARKED) cut--;
+    print_race(1, 0, cut, 0);
+    print_race(2, cut + 1, w.length, SECOND);
+
+    qafrendi_accounted a = qafrendi_account(
+        house, BOOK, races, sizeof races, rows, QAFRENDI_ROW_BYTES, sets, QAFRENDI_SET_WORDS, scratch, QAFRENDI_SCRATCH, lines, WORDS);
+    say("races account", a.reply, QAFRENDI_ACCEPTED, a.place);
+    printf(", %zu candidates\n", a.candidates);
+    for (const uint16_t *line = lines; line < lines + QAFRENDI_LINE_WORDS * a.candidates; line += QAFRENDI_LINE_WORDS) {
+        size_t first = line[QAFRENDI_START] < SECOND ? 0 : SECOND;
+        printf("race %d: rule %d from %zu to %zu, verdict %d\n", first ? 2 : 1, line[QAFRENDI_RULE], line[QAFRENDI_START] - first,
+               line[QAFRENDI_END] - first, line[QAFRENDI_VERDICT]);
+    }
 }
 
 int main(void)
@@ -133,6 +168,8 @@ int main(void)
             printf(" %d from %d", out[k], origins[k]);
         printf("\n");
     }
+
+    print_races();
 
     /* a touch becomes press and release (press, any number of holds, release: state 1 to 2 to 3), and each prints with the time of its own event */
     static const uint8_t contact[] = {
