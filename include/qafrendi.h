@@ -162,6 +162,8 @@ qafrendi_built qafrendi_build(
  * elements of out (symbols) and of origins: positions of the tape, whose times the symbols have. A kept symbol has its own; of a word each
  * symbol has the start of its stretch, but that the last of two or more has the stretch's last position. Each symbol of a word that is put in has the
  * position of the symbol after it, and tape_length at the tape's end. No origin is below one before it.
+ * Two races on one tape: where a symbol that no arc of the book is open to stands between them, the output, accepted, is the first race's, the symbol
+ * with its position, and the second's, its origins moved on by that position and one. No symbol after the marker has its position as origin.
  * Never touches the book, the tape, nor the elements past those. */
 qafrendi_rewritten qafrendi_rewrite(
     const uint8_t *book, size_t book_length,
@@ -176,6 +178,7 @@ qafrendi_rewritten qafrendi_rewrite(
  * Needs workspace and scratch as REWRITE does, and QAFRENDI_LINE_WORDS words a candidate.
  * Writes workspace and scratch as REWRITE does, and, accepted, the first QAFRENDI_LINE_WORDS * candidates words of lines: a line a
  * candidate, in the order of start, end, rule. Start and end are equal where nothing would be removed.
+ * Two races on one tape, as with REWRITE: the lines of the first, then those of the second, with start, end and deciding start moved on alike.
  * Never touches the book, the tape, nor the elements past those. */
 qafrendi_accounted qafrendi_account(
     const uint8_t *book, size_t book_length,
