@@ -1,5 +1,5 @@
 -- The theorems about rewriting and account, on one page. Read them with Paper.antt (source document 001) and Sentences.antt (document 01) of
--- crates/stretches/specs. No hypothesis on the book or the tape, but where an accepted book is named.
+-- crates/stretches/specs. No hypothesis on the book or the tape, but where one is named.
 use Prim.Native.Nat.{ℕ, _+_, _*_, _≤_, _<_}
 use mathlib.Core.List.{List, [], _∷_, _++_, map, List·Memᴰ}
 use mathlib.Core.Path.{_≡_, sym, ap, _∙_}
@@ -73,7 +73,7 @@ timed-row = both-times
 pub proved-insertions : map worked insertions ≡ insertions
 proved-insertions = inserted
 
--- Two races on one tape (document 02, No. 8), with the symbols that are on no arc: alone and joined.
+-- Two races on one tape (document 02, No. 8), alone and joined. (Which symbols are on no arc of their books is `free-symbols` beside it.)
 pub proved-races : map worked races ≡ races
 proved-races = races-worked
 
@@ -354,11 +354,22 @@ module _ (b : Rules) (t : List ℕ) (m : ℕ) (u : List ℕ) (across : Blind m b
   joined-candidates = RacesJoin.candidates-join b t m u across
 
 -- Of a book: such a symbol is each that is on no arc, which is to say from the lowest to the highest symbol of none.
-pub no-arc-blind : (b : Book) (m : ℕ) → onNoArc b m ≡ true → Blind m (rules b)
-no-arc-blind = Unused.blind
+module _ (b : Book) (m : ℕ) where
+  pub no-arc-says : (onNoArc b m ≡ true) ↔ ((x : Arc) → List·Memᴰ x (b .arcs) → x .low ≤ m → m ≤ x .high → ⊥)
+  no-arc-says = Unused.no-arc-says b m
 
-pub no-arc-says : (b : Book) (m : ℕ) → (onNoArc b m ≡ true) ↔ ((x : Arc) → List·Memᴰ x (b .arcs) → x .low ≤ m → m ≤ x .high → ⊥)
-no-arc-says = Unused.no-arc-says
+  pub no-arc-blind : onNoArc b m ≡ true → Blind m (rules b)
+  no-arc-blind = Unused.blind b m
+
+  module _ (shut : onNoArc b m ≡ true) (t u : List ℕ) where
+    pub book-output : rewriting (rules b) (joined t m u) ≡ rewriting (rules b) t ++ (marker t m ∷ map (later (beyond t)) (rewriting (rules b) u))
+    book-output = joined-output (rules b) t m u (no-arc-blind shut)
+
+    pub book-taken : taken (rules b) (joined t m u) ≡ taken (rules b) t ++ map (shifted (beyond t)) (taken (rules b) u)
+    book-taken = joined-taken (rules b) t m u (no-arc-blind shut)
+
+    pub book-account : account (rules b) (joined t m u) ≡ account (rules b) t ++ map (moved (beyond t)) (account (rules b) u)
+    book-account = joined-account (rules b) t m u (no-arc-blind shut)
 
 -- Of the calls. "Premise: the call on the joined tape is accepted": then so is the call on either tape, exactly in buffers with room. A valid symbol need
 -- not be asked for: an accepted tape has no other.
