@@ -5,7 +5,7 @@ use Prim.Native.Nat.{ℕ, zero, suc, _+_, _-_, _≤_, _<_}
 use mathlib.Core.List.{List, [], _∷_, _++_, map, append-assoc}
 use mathlib.Core.Bool.{Bool, true, false, _&&_}
 use mathlib.Core.Path.{_≡_, subst, sym, ap, ap₂, _∙_}
-use mathlib.Core.Logic.{⊎-elim, by-cases}
+use mathlib.Core.Logic.{by-cases}
 use native.Mathlib.Omega.{arith}
 use native.Mathlib.Decide.{decLt}
 use native.Mathlib.Nat.{add-zero, add-suc, zero-add}
@@ -20,21 +20,7 @@ use Rattle.stretches.specs.Account.{each}
 use Rattle.stretches.specs.Races.{joined, beyond, shifted}
 use Rattle.stretches.proofs.Lists.{each-split, each-snoc, each-same, each-later, map-each}
 use Rattle.stretches.proofs.Last.{last-none, last-split, last-same, last-later}
-use Rattle.stretches.proofs.Walks.{over, over-zero, over-suc, cover-in, cover-new, stands, symbolAt, tape-over, longest-high}
-
-module _ (b : Rules) (t : List ℕ) where
-  -- no stretch of t goes past its end
-  pub end-inside : (i : ℕ) → i ≤ length t → over b t i .end ≤ length t
-  end-inside i h =
-      let s = stands b t i in
-      let l = s .low in
-      let e = ap (λ (d : Stretch). d .end) (s .is) in
-      let g = longest-high b t (over b t i .start) (omega arith) in
-      omega arith
-
-  -- and at its end a stretch can only begin, and be empty
-  pub last-start : over b t (length t) .start ≡ length t
-  last-start = let e = end-inside (length t) (omega arith) in ⊎-elim (λ s. s) (λ h. absurd (omega arith)) (stands b t (length t) .here)
+use Rattle.stretches.proofs.Walks.{over, over-zero, over-suc, cover-in, cover-new, symbolAt, tape-over, longest-high, end-inside}
 
 -- ---- the tape: what stands before m, across it, past it
 module _ (t : List ℕ) (m : ℕ) (u : List ℕ) where

@@ -19,8 +19,8 @@ use Rattle.stretches.specs.Sentences.{Candidate}
 use Rattle.stretches.specs.Races.{joined, beyond, marker, later, moved, wordsMoved, shifted}
 use Rattle.stretches.proofs.Lists.{ltb-later, eqb-later, each-split, each-none, each-same, each-later, keep-map, map-each}
 use Rattle.stretches.proofs.WordMarks.{word-later, marks-later}
-use Rattle.stretches.proofs.Walks.{over, stands, symbolAt, symbol-end}
-use Rattle.stretches.proofs.Races.{end-inside, last-start, length-joined, candidate-before, candidate-across, candidate-later}
+use Rattle.stretches.proofs.Walks.{over, stands, symbolAt, symbol-end, end-inside, last-start}
+use Rattle.stretches.proofs.Races.{length-joined, candidate-before, candidate-across, candidate-later}
 use Rattle.stretches.proofs.Races.{rule-before, rule-later, walk-joins}
 
 cond-map {ℓ κ} : {A : Type ℓ} {B : Type κ} (h : A → B) (c : Bool) (x y : List A) → cond c (map h x) (map h y) ≡ map h (cond c x y)

@@ -114,6 +114,15 @@ module _ (b : Rules) (t : List ℕ) where
   unfolding longest
   longest-high i h = last-high (someRule b t i) (length t) i (suc (length t) - i) i h (omega arith)
 
+  -- no stretch goes past the tape's end, and there one can only begin, and be empty
+  pub end-inside : (i : ℕ) → i ≤ length t → over i .end ≤ length t
+  end-inside i h =
+      let s = stands i in
+      omega (arith, ap (λ (d : Stretch). d .end) (s .is), longest-high (over i .start) (omega (arith, s .low)))
+
+  pub last-start : over (length t) .start ≡ length t
+  last-start = let e = end-inside (length t) (omega arith) in ⊎-elim (λ s. s) (λ h. absurd (omega arith)) (stands (length t) .here)
+
   longest-out : (i : ℕ) → length t < i → longest b t i ≡ i
   unfolding longest
   longest-out i h = let e : suc (length t) - i ≡ 0 = omega arith in rw e
