@@ -1,4 +1,6 @@
 // IMPORT: a text in the AT&T form of acceptors as one part of a rule.
+#![tactic(auto)]
+
 ghost use Rattle.std.specs.Prelude.{◌≡◌, ◌+◌, ◌*◌, ◌≤◌, ◌<◌, ◌^◌, [], ◌∷◌, length, take};
 ghost use Rattle.book.specs.Format.{most_states, state_size, arc_size, state_kind, arc_kind};
 ghost use Rattle.att.specs.Text.{read_text, lines_in, idx, state_records, written, refusal, answer_by, import_leaves, import_def};

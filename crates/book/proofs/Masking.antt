@@ -1,7 +1,7 @@
 -- The masks as far as a walk over the records has come: each holds the states so far that its test passes, a state's record adds its state where the
 -- test passes it, and no other record adds one. One law serves all masks; what each of them holds in the end is read off its test. Assumes
 -- nothing.
-use Prim.Native.Nat.{ℕ, zero, suc, ◌+◌, ◌-◌, ◌^◌, ◌≤◌, ◌<◌}
+use Prim.Native.Nat.{ℕ, zero, suc, ◌+◌, ◌^◌, ◌≤◌, ◌<◌}
 use mathlib.Core.Path.{◌≡◌, refl, ap, ap₂, sym, subst, ◌∙◌}
 use mathlib.Core.Logic.{◌≢◌, by_cases}
 use mathlib.Core.Bool.{Bool, true, false, cond, ◌&&◌, ◌||◌}

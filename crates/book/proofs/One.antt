@@ -1,5 +1,5 @@
 -- The contracts of the public functions determine what they give; those of the outline are called with an accepted book. Assumes nothing.
-use mathlib.Core.Path.{◌≡◌, refl, sym, ◌∙◌}
+use mathlib.Core.Path.{refl, sym, ◌∙◌}
 use Rattle.book.specs.Determined.{Determined, Called}
 use Rattle.book.proofs.OneMasks.{one_masks}
 use Rattle.book.proofs.check.Kinds as check-kinds

@@ -221,6 +221,7 @@ accepted_sound s B h = accepted_ind s Sound (keep s) B h none
 
 -- what holds at each place of a list holds of each element
 at_each : {A : Type 0} (P : A → Type 0) (l : List A) (d : A) → ((k : ℕ) → k < length l → P (get_or l k d)) → {x : A} → Memᴰ x l → P x
+at_each P [] d f m = elim m [ ]
 at_each P (y ∷ l) d f (Memᴰ.head e) = subst P (sym e) (f 0 (omega arith))
 at_each P (y ∷ l) d f (Memᴰ.tail m) = at_each P l d (λ k h. f (suc k) (omega arith)) m
 

@@ -60,6 +60,7 @@ cut_eq (cons {a = a} c) = λ i. a ∷ cut_eq c i
 -- 1. any
 pub any_in {ℓ} : {A : Type ℓ} (f : A → Bool) {x : A} {xs : List A} → Memᴰ x xs → T (f x) → T (any f xs)
 any_in f {x} {xs = y ∷ ys} (Memᴰ.head e) t = or_left (f y) (any f ys) (subst (λ (z : _). T (f z)) e t)
+any_in f {xs = []} m t = elim m [ ]
 any_in f {xs = y ∷ ys} (Memᴰ.tail m) t = or_right (f y) (any f ys) (any_in f m t)
 
 pub any_out {ℓ} : {A : Type ℓ} (f : A → Bool) (xs : List A) → T (any f xs) → (x : A) × Memᴰ x xs × T (f x)

@@ -1,4 +1,6 @@
 // CHECK: a book of context rules, read record by record.
+#![tactic(auto)]
+
 ghost use Rattle.std.specs.Prelude.{◌≡◌, ◌+◌, ◌≤◌, ◌<◌, length};
 ghost use Rattle.book.specs.Format.{longest_word, most_states, rule_size, byte, record_size, symbol_fits, symbols_fit, given};
 ghost use Rattle.book.specs.Format.{rule_reply, state_reply, arc_reply, kind_reply, record_reply};
@@ -92,7 +94,7 @@ pub struct Written {
 }
 
 // What the records so far have given: their counts, the number of the latest rule's first state, and each state's part.
-#[derive(Drop)]
+#[derive(Clone, Copy)]
 pub struct Scan {
     pub rules: usize,
     pub states: usize,

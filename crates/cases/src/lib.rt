@@ -1,5 +1,7 @@
 // A case of the programs checks and tapes: a book, a tape and room are handed to an operation, and its reply with its place, its counts and
 // what stands in each buffer afterwards are compared. It prints a line: ok or WRONG, operation, reply, place.
+#![tactic(auto)]
+
 ghost use Rattle.std.specs.Prelude.{◌≡◌, ◌+◌, ◌≤◌, length, take};
 ghost use Rattle.sets.specs.Workspace.{row_bytes, set_words};
 ghost use Rattle.stretches.specs.Buffers.{longest_tape};

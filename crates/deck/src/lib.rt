@@ -1,4 +1,6 @@
 // The C face: one function for each public operation, with that operation's contract. A slice passes as a pointer and its length in elements.
+#![tactic(auto)]
+
 ghost use Rattle.std.specs.Prelude.{◌≡◌};
 ghost use Rattle.book.specs.Reading.{check_def};
 ghost use Rattle.sets.specs.Workspace.{build_leaves, build_def};

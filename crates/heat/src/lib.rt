@@ -1,4 +1,6 @@
 // All lanes of a heat: one book, and up to ten tapes in one common buffer.
+#![tactic(auto)]
+
 ghost use Rattle.std.specs.Prelude.{◌≡◌, ◌+◌, ◌≤◌, ltb, length};
 ghost use Rattle.book.specs.Reading.{book_of};
 ghost use Rattle.sets.specs.Tables.{AsBuilt};

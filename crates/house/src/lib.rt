@@ -1,4 +1,6 @@
 // The house book: 148 bytes in 35 records, a record a line; 3 rules (noise, turn, finish), 19 states, 12 arcs.
+#![tactic(auto)]
+
 ghost use Rattle.std.specs.Prelude.{◌≡◌};
 ghost use Rattle.book.specs.House.{house};
 ghost use Rattle.book.specs.Reading.{check_def};

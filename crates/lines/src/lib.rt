@@ -1,4 +1,6 @@
 // ACCOUNT's passes over one tape: the candidates are counted before the first word is written, so that a refusal leaves the account as it was.
+#![tactic(auto)]
+
 ghost use Rattle.std.specs.Prelude.{◌≡◌, ◌≤◌, length};
 ghost use Rattle.book.specs.Reading.{book_of};
 ghost use Rattle.book.specs.Language.{rules_in};

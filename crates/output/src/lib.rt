@@ -1,4 +1,6 @@
 // REWRITE's forward passes over one tape.
+#![tactic(auto)]
+
 ghost use Rattle.std.specs.Prelude.{◌≡◌, min};
 ghost use Rattle.book.specs.Reading.{book_of};
 ghost use Rattle.book.specs.Language.{rules_in};

@@ -1,4 +1,6 @@
 // Document 01's program: tapes as lines of digits, 0 to 9 and a to v, on standard input, each rewritten and accounted for by the house book.
+#![tactic(auto)]
+
 ghost use Rattle.std.specs.Prelude.{◌≡◌, ◌≤◌, ◌<◌, length};
 ghost use Rattle.pads.specs.Digits.{symbol_of};
 

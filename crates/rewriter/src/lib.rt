@@ -1,4 +1,6 @@
 // The rewriter: REWRITE, ACCOUNT and SHOW.
+#![tactic(auto)]
+
 ghost use Rattle.std.specs.Prelude.{◌≡◌, length};
 ghost use Rattle.book.specs.Reading.{book_of};
 ghost use Rattle.sets.specs.Tables.{AsBuilt};

@@ -1,4 +1,6 @@
 // BUILD: the two automata of a book.
+#![tactic(auto)]
+
 ghost use Rattle.std.specs.Prelude.{◌≡◌, ◌≤◌, length};
 ghost use Rattle.book.specs.Reading.{check_def, book_of};
 ghost use Rattle.book.specs.Outline.{Placed, Masked};

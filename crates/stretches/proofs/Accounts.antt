@@ -183,7 +183,7 @@ module _ (b : Rules) (t : List ℕ) where
   zero_one : (i j r : ℕ) → i ≤ j → j < i + (suc (length t) - i) → r < length b.words → i ≤ length t → T (candidate b t i j r) → (line_at i j r).verdict ≡ 0
       → Walked b t i j × (r ≡ ruled i j)
   zero_one i j r h k g n c v =
-      let z = (line_judged i j r (record { ordered = h; inside = omega arith; known = g; holds = c }) (place b t i n)).taken-one.0 v in
+      let z = (line_judged i j r (record { ordered = h; inside = omega arith; known = g; holds = c }) (place b t i n)).taken_one.0 v in
       (out z.0, z.1)
 
   none_at : (i : ℕ) → i ≤ length t → ((j : ℕ) → Walked b t i j → ⊥) → taken_lines (from i) ≡ []
@@ -238,7 +238,7 @@ module _ (b : Rules) (t : List ℕ) where
       let a = w.some.cand in
       let k = f.high in
       let m = account_in i j (ruled i j) (record { ordered = a.ordered; inside = a.inside; known = omega arith; holds = f.passes }) in
-      (line_at i j (ruled i j), m, refl, refl, (account_judged (line_at i j (ruled i j)) m).taken-one.1 (into w, refl))
+      (line_at i j (ruled i j), m, refl, refl, (account_judged (line_at i j (ruled i j)) m).taken_one.1 (into w, refl))
 
   -- a taken start has one line marked 0
   abbrev numbered : ℕ → Line
@@ -247,8 +247,8 @@ module _ (b : Rules) (t : List ℕ) where
   pub marked_once : (j k : ℕ) → j < length (account b t) → k < length (account b t) → (numbered j).verdict ≡ 0 → (numbered k).verdict ≡ 0
       → (numbered j).start ≡ (numbered k).start → j ≡ k
   marked_once j k h g u v e =
-      let x = (account_judged (numbered j) (number_in (account b t) j h)).taken-one.0 u in
-      let y = (account_judged (numbered k) (number_in (account b t) k g)).taken-one.0 v in
+      let x = (account_judged (numbered j) (number_in (account b t) j h)).taken_one.0 u in
+      let y = (account_judged (numbered k) (number_in (account b t) k g)).taken_one.0 v in
       let f = walked_one b t (out (subst (λ (i : ℕ). Takes b t i (numbered j).end) e x.0)) (out y.0) in
       sorted_once (account b t) account_sorted j k h g (record { start = e; end = f; rule = x.1 ∙ (λ i. ruled (e i) (f i)) ∙ sym y.1 })
 

@@ -29,6 +29,7 @@ number_in (l ∷ ls) (suc k) h = Memᴰ.tail (number_in ls k (omega arith))
 pub in_number : (ls : List Line) (l : Line) → Memᴰ l ls → (k : ℕ) × (k < length ls) × (line_number ls k ≡ l)
 in_number (x ∷ ls) l (Memᴰ.head e) = (0, omega arith, sym e)
 in_number (x ∷ ls) l (Memᴰ.tail m) = let z = in_number ls l m in let h = z.1 in (suc z.0, omega arith, z.2)
+in_number [] l m = elim m [ ]
 
 numbers_before : (ls : List Line) → Sorted ls → (j k : ℕ) → j < k → k < length ls → Before (line_number ls j) (line_number ls k)
 numbers_before [] p j k h g = absurd (omega arith)

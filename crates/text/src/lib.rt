@@ -1,4 +1,6 @@
 // A text that goes to standard output when it is full: the programs print through it, so that a line costs no call of the system.
+#![tactic(auto)]
+
 ghost use Rattle.std.specs.Prelude.{◌≡◌, ◌≤◌, ◌<◌, length};
 ghost use Rattle.text.specs.Text.{holds, put_one, put_all};
 
