@@ -1,5 +1,5 @@
 -- Cuts of a tape at positions: the front, a stretch, the rest. Assumes nothing.
-use Prim.Native.Nat.{ℕ, zero, suc, ◌+◌, ◌-◌, ◌≤◌, ◌<◌}
+use Prim.Native.Nat.{ℕ, zero, suc, ◌+◌, ◌≤◌, ◌<◌}
 use mathlib.Core.List.{List, [], ◌∷◌, ◌++◌}
 use mathlib.Core.Path.{◌≡◌, refl, subst, ap, ◌∙◌}
 use native.Mathlib.Omega.{arith}
