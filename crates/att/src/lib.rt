@@ -17,14 +17,14 @@ mod reading; // reading.rt: one line, and the text with a place in it
 const MANY: usize = book::STATES + 1;
 
 // The states of the text so far, in the order of first appearance: `count` of them, or MANY where the list has no room for all.
-#[derive(Drop)]
+#[derive(Clone, Copy)]
 pub struct Known {
     pub list: [u16; book::STATES],
     pub count: usize,
 }
 
 // The first pass over the text.
-#[derive(Drop)]
+#[derive(Clone, Copy)]
 pub struct Survey {
     // Whether there is a line to read.
     pub going: bool,
@@ -36,7 +36,7 @@ pub struct Survey {
 }
 
 // The second pass over the text.
-#[derive(Drop)]
+#[derive(Clone, Copy)]
 pub struct Writing {
     // Whether there is a line to read.
     pub going: bool,

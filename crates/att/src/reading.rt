@@ -13,7 +13,7 @@ const NEWLINE: u8 = b'\n';
 const LABELS: u32 = book::SYMBOLS as u32;
 
 // What stands at a place of the text. The last number of a good line is the place of the next.
-#[derive(Drop)]
+#[derive(Clone, Copy)]
 pub enum Line {
     End,
     Final(u16, usize),

@@ -1,0 +1,14 @@
+use Rattle.att.proofs.Parting.{front_length, front_is}
+use borrow.Author.Rules.{rules}
+use Rattle.att.proofs.fields.front.Reads as reads
+use Rattle.att.proofs.fields.front.Lts as lts
+use Rattle.att.proofs.fields.span.Reads as span-reads
+use Rattle.att.proofs.fields.front.Goals as goal
+
+-- src/fields.rt:38:5
+pub slice_bounds-result-end : goal.slice_bounds-result-end
+slice_bounds-result-end c = front_length 9 _ _ c.span-e.ensures
+
+-- src/fields.rt:34:1
+pub returns : goal.returns
+returns c = front_is 9 _ _ c.span-e.ensures

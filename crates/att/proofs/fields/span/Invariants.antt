@@ -1,0 +1,15 @@
+use Prim.Native.Nat.{◌+◌, ◌-◌, ◌≤◌}
+use mathlib.Core.Path.{◌≡◌}
+use native.Mathlib.Omega.{arith}
+use lib.ListN.{length, drop}
+use Rattle.att.specs.Fields.{before}
+use Rattle.att.proofs.Parting.{span_met, span_more, span_end}
+use Rattle.att.proofs.fields.span.Reads as reads
+use Rattle.att.proofs.fields.span.Lts as lts
+use Rattle.att.proofs.fields.span.Given as goal
+
+abbrev pub invariant-loop-i : goal.invariant-loop-i
+invariant-loop-i l = (l.i ≤ length l.s) × (l.i + length (before l.b (drop l.i l.s)) ≡ length (before l.b l.s))
+
+abbrev pub decreases-loop-i : goal.decreases-loop-i
+decreases-loop-i l = length l.s - l.i
