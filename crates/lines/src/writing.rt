@@ -21,7 +21,7 @@ use stretches::steps::{SLOTS, STEPS};
 use stretches::walk::{first_set, rule_hits, taken_at};
 
 // The stretch that decides at a position: the taken one that starts there or covers it, or the empty one at it where nothing is taken.
-#[derive(Drop)]
+#[derive(Clone, Copy)]
 pub struct Deciding {
     // Where it starts, at most the position: the fifth word of a line.
     pub start: usize,
@@ -129,7 +129,7 @@ fn put_rules(
 }
 
 // The lines of one start: the ends from it on, the start itself first.
-fn lines_at_lem(
+fn lines_at(
     book: &[u8],
     places: &[u16; book::STATES],
     masks: &[u64; MASKS],
@@ -246,7 +246,7 @@ pub(crate) fn write_lines(
             &mut steps,
             &mut symbols,
         );
-        at = lines_at_lem(
+        at = lines_at(
             book, places, masks, rules, tape, sets, scratch, i, left, d, lines, at,
         );
         if i == tape.len() {
