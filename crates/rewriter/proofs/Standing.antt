@@ -1,6 +1,6 @@
 -- Rows and sets as BUILD left them: one build is as good as ten. The tests of a tape and its backward pass leave what `ready_def` says; and what
 -- REWRITE answers and writes does not look at what stood in the workspace. Assumes nothing.
-use Prim.Native.Nat.{ℕ, ◌+◌, ◌≤◌, ◌<◌}
+use Prim.Native.Nat.{ℕ, ◌≤◌, ◌<◌}
 use mathlib.Core.Path.{◌≡◌, refl, sym, ap, ap₂, ◌∙◌}
 use mathlib.Core.List.{List, [], ◌++◌}
 use mathlib.Core.Bool.{Bool, true, false, cond, ◌&&◌}
