@@ -1,6 +1,6 @@
 -- Where the lanes stand: "Each lane's output goes into the common output right after that of the lane before, and a refused lane uses no room"; a
 -- later lane leaves what stands before its place; every buffer keeps its length. Assumes nothing.
-use Prim.Native.Nat.{ℕ, suc, ◌+◌, ◌-◌, ◌≤◌}
+use Prim.Native.Nat.{ℕ, suc, ◌+◌, ◌≤◌}
 use mathlib.Core.Path.{◌≡◌, refl, sym, ap, ◌∙◌}
 use mathlib.Core.Bool.{Bool, true, false, cond}
 use mathlib.Core.List.{List, [], ◌∷◌, ◌++◌}

@@ -44,11 +44,8 @@ in_turn_lem f (l ∷ ls) pre s =
     ∙ ap (λ (z : List Lane). lanes_leave z (in_turn f ls v.left).left) (append_assoc pre (v.lane ∷ []) (in_turn f ls v.left).lanes)
 
 -- ---- the invariant: what stands before the i-th lane, with k lanes left
-pub record Here (f : Lane → Leaving → AfterLane) (xs : List Lane) (s₀ : Leaving) (count : ℕ) : Type 0 where
-  pub i : ℕ
+pub record Here (f : Lane → Leaving → AfterLane) (xs : List Lane) (s₀ : Leaving) (count i : ℕ) (ys : List Lane) (s : Leaving) : Type 0 where
   pub k : ℕ
-  pub ys : List Lane
-  pub s : Leaving
   pub sum : i + k ≡ count
   pub lanes_same : length ys ≡ length xs
   pub scratch_same : length s.scratch ≡ length s₀.scratch
@@ -58,12 +55,9 @@ pub record Here (f : Lane → Leaving → AfterLane) (xs : List Lane) (s₀ : Le
   pub whole' : in_place f i k ys s ≡ in_place f 0 count xs s₀
 
 module _ (f : Lane → Leaving → AfterLane) (keeps : (l : Lane) (s : Leaving) → Roomy s → Roomy (f l s).left) (xs : List Lane) (s₀ : Leaving) (count : ℕ) where
-  abbrev pub here_start : s₀.used ≡ 0 → Here f xs s₀ count
+  pub here_start : s₀.used ≡ 0 → Here f xs s₀ count 0 xs s₀
   here_start z = record {
-    i = 0;
     k = count;
-    ys = xs;
-    s = s₀;
     sum = omega arith;
     lanes_same = refl;
     scratch_same = refl;
@@ -74,36 +68,30 @@ module _ (f : Lane → Leaving → AfterLane) (keeps : (l : Lane) (s : Leaving) 
   }
 
   -- one lane done: it is now d, and the buffers are as long as before
-  module _ (x : Here f xs s₀ count) (less : x.i < count) (d : AfterLane) (e : d ≡ f (get_or x.ys x.i no_lane) x.s)
-      (es : length d.left.scratch ≡ length x.s.scratch) (eo : length d.left.out ≡ length x.s.out)
-      (eg : length d.left.origins ≡ length x.s.origins) where
-    pub step_whole : (k : ℕ) → x.i + k ≡ count → in_place f x.i k x.ys x.s ≡ in_place f 0 count xs s₀
-        → in_place f (x.i + 1) (k - 1) (set x.ys x.i d.lane) d.left ≡ in_place f 0 count xs s₀
+  module _ (i : ℕ) (ys : List Lane) (s : Leaving) (x : Here f xs s₀ count i ys s) (less : i < count) (d : AfterLane) (e : d ≡ f (get_or ys i no_lane) s)
+      (es : length d.left.scratch ≡ length s.scratch) (eo : length d.left.out ≡ length s.out)
+      (eg : length d.left.origins ≡ length s.origins) where
+    step_whole : (k : ℕ) → i + k ≡ count → in_place f i k ys s ≡ in_place f 0 count xs s₀
+        → in_place f (i + 1) (k - 1) (set ys i d.lane) d.left ≡ in_place f 0 count xs s₀
     unfolding in_place
     step_whole zero g w = absurd (omega arith)
     step_whole (suc k) g w =
         let p : suc k - 1 ≡ k = omega arith in
-        ap (λ (n : ℕ). in_place f (x.i + 1) n (set x.ys x.i d.lane) d.left) p
-        ∙ ap (λ (z : AfterLane). in_place f (x.i + 1) k (set x.ys x.i z.lane) z.left) e
+        ap (λ (n : ℕ). in_place f (i + 1) n (set ys i d.lane) d.left) p
+        ∙ ap (λ (z : AfterLane). in_place f (i + 1) k (set ys i z.lane) z.left) e
         ∙ w
 
-    abbrev pub here_next : Here f xs s₀ count
+    pub here_next : Here f xs s₀ count (i + 1) (set ys i d.lane) d.left
     here_next = record {
-      i = x.i + 1;
       k = x.k - 1;
-      ys = set x.ys x.i d.lane;
-      s = d.left;
       sum = omega (arith, x.sum);
-      lanes_same = length-set x.ys x.i d.lane ∙ x.lanes_same;
+      lanes_same = length-set ys i d.lane ∙ x.lanes_same;
       scratch_same = es ∙ x.scratch_same;
       out_same = eo ∙ x.out_same;
       origins_same = eg ∙ x.origins_same;
-      roomy = subst (λ (z : AfterLane). Roomy z.left) (sym e) (keeps (get_or x.ys x.i no_lane) x.s x.roomy);
+      roomy = subst (λ (z : AfterLane). Roomy z.left) (sym e) (keeps (get_or ys i no_lane) s x.roomy);
       whole' = step_whole x.k x.sum x.whole';
     }
-
-    pub next_below_lem : here_next.k < x.k
-    next_below_lem = omega (arith, x.sum)
 
 -- ---- before and after
 -- the lanes that are to be rewritten are all, or none
@@ -136,13 +124,13 @@ module _ (book tapes : List ℕ) (xs : List Lane) (R S X O G : List ℕ) where
       by false (yes z) =
           simp (z, build_place book R S z, all_lanes (lane_def book tapes (build_def book R S).rows (build_def book R S).sets))
 
-  pub here_end : (d : AfterBegin) → d ≡ begin_def book (length xs) R S → (x : Here (lane_def book tapes d.rows d.sets) xs s₀ d.begun.lanes)
-      → d.begun.lanes ≤ x.i
-      → heat_leaves d.begun.heated x.ys d.rows d.sets x.s.scratch x.s.out x.s.origins ≡ heat_def book tapes xs R S X O G
+  pub here_end : (d : AfterBegin) → d ≡ begin_def book (length xs) R S → (i : ℕ) (ys : List Lane) (s : Leaving)
+      → Here (lane_def book tapes d.rows d.sets) xs s₀ d.begun.lanes i ys s → d.begun.lanes ≤ i
+      → heat_leaves d.begun.heated ys d.rows d.sets s.scratch s.out s.origins ≡ heat_def book tapes xs R S X O G
   unfolding in_place
-  here_end d e x done =
+  here_end d e i ys s x done =
       let z : x.k ≡ 0 = omega (arith, x.sum) in
       let f = lane_def book tapes d.rows d.sets in
-      let w : lanes_leave x.ys x.s ≡ in_place f 0 d.begun.lanes xs s₀ = ap (λ (n : ℕ). in_place f x.i n x.ys x.s) (sym z) ∙ x.whole' in
+      let w : lanes_leave ys s ≡ in_place f 0 d.begun.lanes xs s₀ = ap (λ (n : ℕ). in_place f i n ys s) (sym z) ∙ x.whole' in
       ap (λ (r : AfterLanes). heat_leaves d.begun.heated r.lanes d.rows d.sets r.left.scratch r.left.out r.left.origins) w
       ∙ ap told e ∙ begun_told

@@ -13,7 +13,7 @@ pub const MOST_LANES: usize = 10;
 
 // One lane. The caller writes where its tape stands, which is never changed; the other fields are what the lane gets back.
 #[repr(C)]
-#[derive(Drop)]
+#[derive(Clone, Copy)]
 pub struct Lane {
     // Where the lane's tape begins in the common buffer, and how many symbols it has: any numbers, for a stretch that leaves the buffer is 17.
     pub start: usize,
@@ -166,8 +166,7 @@ fn run_lane(
     }
 }
 
-// Document 02's HEAT: any book, common buffer, lanes and buffers get their replies. Its proof walks it step by step, for it is lent a slice of
-// structs; all that it calls is proved in the usual form.
+// Document 02's HEAT: any book, common buffer, lanes and buffers get their replies.
 pub fn heat(
     book: &[u8],
     tapes: &[u8],
