@@ -6,7 +6,6 @@ pub mod Symbols
 -- Laws of the states' numbers, of the passes over the text, of what is written.
 pub mod Names
 pub mod Surveying
-pub mod Holding
 pub mod Filling
 pub mod Appearing
 pub mod Flags

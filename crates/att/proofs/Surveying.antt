@@ -1,6 +1,6 @@
 -- How far the first pass has come.
 use Prim.Native.Nat.{ℕ, zero, suc, ◌+◌, ◌-◌, ◌≤◌, ◌<◌, ◌^◌}
-use mathlib.Core.Path.{◌≡◌, refl, sym, ◌∙◌, subst}
+use mathlib.Core.Path.{◌≡◌, refl, sym, ◌∙◌, ap, subst}
 use mathlib.Core.List.{List, [], ◌∷◌, ◌++◌}
 use mathlib.Core.Bool.{Bool, true, false, cond, false≢true}
 use native.Mathlib.Omega.{arith}
@@ -8,9 +8,10 @@ use lib.ListN.{length, replicate}
 use Rattle.book.specs.Format.{most_states}
 use Rattle.att.specs.Reading.{line_at}
 use Rattle.att.specs.Text.{Said, arc, final, refused, accepted, turn, read_from, read_text, add_line, names_from, names, arc_one, arc_count}
-use Rattle.att.specs.Survey.{place_after, Lists, Onward, Done, Lined, begun, Surveyed}
+use Rattle.att.specs.Survey.{place_after, moved, Lists, Onward, Done, Lined, begun, Surveyed}
 use Rattle.att.specs.declared.reading.Line.{Line}
 use Rattle.att.specs.declared.reading.Line.TheVariants.{End, Final, Arc, Faulty}
+use Rattle.att.specs.declared.reading.Lines.{Lines}
 use Rattle.att.specs.declared.Known.{Known}
 use Rattle.att.specs.declared.Survey.{Survey}
 use Rattle.att.proofs.Good.{Good, good_line}
@@ -94,6 +95,21 @@ after_within s n (Faulty c) e h = h
 
 pub faulty_some : (s : List ℕ) (at r : ℕ) → line_at s at ≡ Faulty r → r ≡ 0 → ⊥
 faulty_some s at r e = subst (λ (l : Line). Good at (length s) l) e (good_line s at)
+
+-- what `advance` leaves, which is called on h: the line is read from the text s, and h' is the same text at the place after it
+module _ (s : List ℕ) (h : Lines) (line : Line) (same : h.text.now ≡ s) (read : line ≡ line_at h.text.now h.at) where
+  pub line_there : line ≡ line_at s h.at
+  line_there = read ∙ ap (λ (t : List ℕ). line_at t h.at) same
+
+  module _ (h' : Lines) (gone : h' ≡ moved h (place_after line h.at)) where
+    pub text_kept : h'.text.now ≡ s
+    text_kept = ap (λ (k : Lines). k.text.now) gone ∙ same
+
+    pub place_moved : h'.at ≡ place_after line h.at
+    place_moved = ap (λ (k : Lines). k.at) gone
+
+    pub place_inside : h.at ≤ length s → h'.at ≤ length s
+    place_inside w = subst (λ (k : ℕ). k ≤ length s) (sym place_moved) (after_within s h.at line line_there w)
 
 -- what is ahead of a pass that has come to `at`
 abbrev pub ahead : List ℕ → Bool → ℕ → ℕ

@@ -132,7 +132,7 @@ fn begin() -> Survey
     }
 }
 
-// The first pass. Its proof walks it step by step, for it holds a struct with a reference; what is done with a line is decided in `survey_line`.
+// The first pass; what is done with a line is decided in `survey_line`.
 fn survey_of(text: &[u8]) -> Survey
     ensures { Surveyed (read_text text.now) result }
 {
@@ -242,7 +242,7 @@ fn after_states(n: usize) -> Writing
     Writing { going: true, used }
 }
 
-// The second pass: accepting states are marked in their records, and arcs are written after the states. It is proved as `survey_of` is.
+// The second pass: accepting states are marked in their records, and arcs are written after the states.
 fn put_lines(
     out: &mut [u8],
     text: &[u8],

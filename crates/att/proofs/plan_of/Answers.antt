@@ -18,7 +18,7 @@ returns-then-v-ne0 c = planned_refused _ _ _ _ c.survey_of-v.ensures _ c.if-v-ne
 pub judged-answer-requires : goal.judged-answer-requires
 judged-answer-requires c =
     let h = survey_room _ c.args.first c.args.room _ c.survey_of-v.ensures c.if-v-ne0.false in
-    (fresh_most 65 _ _ c.states_of.ensures (omega arith) h, omega (arith, PLACE_Start))
+    (fresh_most 65 _ _ c.states_of.ensures (omega arith) h, omega arith)
 
 -- src/lib.rt:316:1
 pub returns : goal.returns

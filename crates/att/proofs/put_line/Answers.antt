@@ -82,7 +82,7 @@ put_arc-requires c = arc-room _ _ _ _ _ _ c.requires _ _ _ _ c.in-Arc.is
 
 -- src/lib.rt:228:22
 pub overflow_add-r : goal.overflow_add-r
-overflow_add-r c = omega (arith, PLACE_Start, arc-room _ _ _ _ _ _ c.requires _ _ _ _ c.in-Arc.is)
+overflow_add-r c = omega (arith, arc-room _ _ _ _ _ _ c.requires _ _ _ _ c.in-Arc.is)
 
 -- src/lib.rt:230:13
 pub returns-in-Arc : goal.returns-in-Arc

@@ -6,10 +6,8 @@ use Rattle.att.proofs.fields.behind.Lts as lts
 use Rattle.att.proofs.fields.span.Reads as span-reads
 use Rattle.att.proofs.fields.behind.Goals as goal
 
--- UNCONVERTED
--- -- src/fields.rt:50:5
--- part-result-start-2 : tie.Need-slice-bounds-result-start-2
--- part-result-start-2 c = omega (arith, c.before.span.ensures, before_short 9 c.before.before.before.args.l.now)
+pub slice_bounds-result-start-2 : goal.slice_bounds-result-start-2
+slice_bounds-result-start-2 c = omega (arith, c.span-e.ensures, before_short 9 c.args.l.now)
 
 -- src/fields.rt:48:9
 pub returns-then-e-l : goal.returns-then-e-l
