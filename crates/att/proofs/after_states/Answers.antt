@@ -1,10 +1,6 @@
-use borrow.Author.Rules.{rules}
 use native.Mathlib.Omega.{arith}
 use Rattle.att.specs.Survey.{after_states}
 use Rattle.att.proofs.Filling.{fresh_most}
-use Rattle.att.proofs.after_states.Reads as reads
-use Rattle.att.proofs.after_states.Lts as lts
-use Rattle.att.proofs.states_of.Reads as states-of-reads
 use Rattle.att.proofs.after_states.Goals as goal
 
 -- src/lib.rt:248:16

@@ -1,7 +1,5 @@
 use mathlib.Core.Path.{refl}
 use Rattle.att.specs.Survey.{begun}
-use Rattle.att.proofs.begin.Reads as reads
-use Rattle.att.proofs.begin.Lts as lts
 use Rattle.att.proofs.begin.Goals as goal
 
 -- src/lib.rt:122:1

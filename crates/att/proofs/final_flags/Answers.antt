@@ -1,7 +1,5 @@
 use native.Mathlib.Omega.{arith}
 use Rattle.att.proofs.Flags.{flags_start, flags_later}
-use Rattle.att.proofs.final_flags.Reads as reads
-use Rattle.att.proofs.final_flags.Lts as lts
 use Rattle.att.proofs.final_flags.Goals as goal
 
 -- src/lib.rt:191:1

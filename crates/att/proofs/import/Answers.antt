@@ -1,14 +1,7 @@
 use mathlib.Core.Path.{◌∙◌, sym}
 use native.Mathlib.Omega.{arith}
-use borrow.Author.Rules.{rules}
 use Rattle.att.proofs.Answers.{answer_read_lem}
 use Rattle.att.proofs.Planning.{import_part, import_refused, import_done, room_states, ready, whole_filled}
-use Rattle.att.proofs.import.Reads as reads
-use Rattle.att.proofs.import.Lts as lts
-use Rattle.att.proofs.plan_of.Reads as plan-of-reads
-use Rattle.att.proofs.put_lines.Reads as put-lines-reads
-use Rattle.att.proofs.put_states.Reads as put-states-reads
-use Rattle.att.proofs.refused.Reads as refused-reads
 use Rattle.att.proofs.import.Goals as goal
 
 -- src/lib.rt:334:9

@@ -1,10 +1,6 @@
 use mathlib.Core.Path.{sym, ◌∙◌}
 use native.Mathlib.Omega.{arith}
 use Rattle.att.proofs.Answers.{answer_arcs, answer_states, answer_room, answer_good}
-use borrow.Author.Rules.{rules}
-use Rattle.att.proofs.judged.Reads as reads
-use Rattle.att.proofs.judged.Lts as lts
-use Rattle.att.proofs.refused.Reads as refused-reads
 use Rattle.att.proofs.judged.Goals as goal
 
 -- src/lib.rt:284:9

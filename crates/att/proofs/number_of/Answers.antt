@@ -1,11 +1,5 @@
-use Prim.Native.Nat.{◌+◌, ◌-◌, ◌≤◌}
-use mathlib.Core.Path.{◌≡◌}
 use native.Mathlib.Omega.{arith}
-use lib.ListN.{take, drop}
-use Rattle.att.specs.Text.{idx}
 use Rattle.att.proofs.Names.{find_start, find_met, find_more, find_end}
-use Rattle.att.proofs.number_of.Reads as reads
-use Rattle.att.proofs.number_of.Lts as lts
 use Rattle.att.proofs.number_of.Goals as goal
 
 -- src/lib.rt:55:5
@@ -18,8 +12,7 @@ returns-then-list-k c = find_met _ _ _ _ (omega arith) c.loop-k.invariant.1 c.lo
 
 -- src/lib.rt:55:5
 pub loop-k-preserved : goal.loop-k-preserved
-loop-k-preserved c =
-    (
+loop-k-preserved c = (
   omega arith,
   find_more _ _ _ _ (omega arith) c.loop-k.invariant.1
       c.loop-k-test.true c.if-list-k.false,

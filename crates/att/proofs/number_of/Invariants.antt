@@ -1,11 +1,7 @@
 use Prim.Native.Nat.{◌+◌, ◌-◌, ◌≤◌}
 use mathlib.Core.Path.{◌≡◌}
-use native.Mathlib.Omega.{arith}
 use lib.ListN.{take, drop}
 use Rattle.att.specs.Text.{idx}
-use Rattle.att.proofs.Names.{find_start, find_met, find_more, find_end}
-use Rattle.att.proofs.number_of.Reads as reads
-use Rattle.att.proofs.number_of.Lts as lts
 use Rattle.att.proofs.number_of.Given as goal
 
 abbrev pub invariant-loop-k : goal.invariant-loop-k

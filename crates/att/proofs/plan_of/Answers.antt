@@ -1,13 +1,6 @@
 use native.Mathlib.Omega.{arith}
-use borrow.Author.Rules.{rules}
 use Rattle.att.proofs.Filling.{fresh_most}
 use Rattle.att.proofs.Planning.{survey_room, planned_refused, planned_good}
-use Rattle.att.proofs.plan_of.Reads as reads
-use Rattle.att.proofs.plan_of.Lts as lts
-use Rattle.att.proofs.judged.Reads as judged-reads
-use Rattle.att.proofs.refused.Reads as refused-reads
-use Rattle.att.proofs.states_of.Reads as states-of-reads
-use Rattle.att.proofs.survey_of.Reads as survey-of-reads
 use Rattle.att.proofs.plan_of.Goals as goal
 
 -- src/lib.rt:323:9

@@ -1,9 +1,6 @@
 use Rattle.att.proofs.Filling.{five}
 use native.Mathlib.Omega.{arith}
 use lib.ListN.{length-set}
-use borrow.Author.Rules.{rules}
-use Rattle.att.proofs.put_arc.Reads as reads
-use Rattle.att.proofs.put_arc.Lts as lts
 use Rattle.att.proofs.put_arc.Goals as goal
 
 -- src/lib.rt:167:5

@@ -1,5 +1,4 @@
 use Prim.Native.Nat.{ℕ, ◌+◌, ◌≤◌, ◌<◌}
-use borrow.Author.Rules.{rules}
 use mathlib.Core.Path.{◌≡◌, subst}
 use mathlib.Core.List.{List}
 use native.Mathlib.Omega.{arith}
@@ -8,11 +7,6 @@ use Rattle.att.specs.Text.{idx}
 use Rattle.att.specs.Survey.{Listed, LineFits}
 use Rattle.att.specs.declared.reading.Line.{Line}
 use Rattle.att.specs.declared.reading.Line.TheVariants.{Final, Arc}
-use Rattle.att.proofs.put_line.Reads as reads
-use Rattle.att.proofs.put_line.Lts as lts
-use Rattle.att.proofs.final_flags.Reads as final-flags-reads
-use Rattle.att.proofs.number_of.Reads as number-of-reads
-use Rattle.att.proofs.put_arc.Reads as put-arc-reads
 use Rattle.att.proofs.put_line.Goals as goal
 
 -- what is asked of a line that is known

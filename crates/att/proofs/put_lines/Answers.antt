@@ -27,7 +27,7 @@ loop-writing-init c = (
   (
     omega arith,
     subst (Under c.args.out.now c.args.out.now c.args.text.now c.args.part c.args.first 0) (sym c.after_states-writing.ensures)
-    (under_start _ _ _ _ _ _ c.requires),
+        (under_start _ _ _ _ _ _ c.requires),
   ),
 )
 
@@ -47,6 +47,6 @@ loop-writing-preserved c = (
   (
     place_inside _ _ _ c.loop-writing.invariant.0 c.advance-line.ensures.0 _ c.advance-line.ensures.1 c.loop-writing.invariant.1.0,
     (turned _ _ _ _ _ _ c.requires _ _ c.loop-writing.invariant.0 c.advance-line.ensures.0 _ _ c.loop-writing.invariant.1.1
-    c.loop-writing-test.true _ c.advance-line.ensures.1 _ _ c.put_line-writing.ensures).0,
+        c.loop-writing-test.true _ c.advance-line.ensures.1 _ _ c.put_line-writing.ensures).0,
   ),
 )

@@ -1,5 +1,5 @@
 -- How far the second pass has come is said in Putting.antt; what is ahead of it gets less with each line.
-use Rattle.std.proofs.Common.{◌≡◌, ◌≤◌, ℕ, List, length}
+use Rattle.std.proofs.Common.{◌≡◌, ◌≤◌, length}
 use Rattle.att.proofs.Surveying.{ahead}
 use Rattle.att.proofs.Putting.{Under}
 use Rattle.att.proofs.put_lines.Given as goal

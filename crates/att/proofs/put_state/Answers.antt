@@ -1,9 +1,6 @@
 use Rattle.att.proofs.Filling.{three}
 use native.Mathlib.Omega.{arith}
 use lib.ListN.{length-set}
-use borrow.Author.Rules.{rules}
-use Rattle.att.proofs.put_state.Reads as reads
-use Rattle.att.proofs.put_state.Lts as lts
 use Rattle.att.proofs.put_state.Goals as goal
 
 -- src/lib.rt:158:5

@@ -1,14 +1,8 @@
-use Prim.Native.Nat.{◌+◌, ◌*◌, ◌≤◌, ◌-◌}
+use Prim.Native.Nat.{◌+◌, ◌*◌, ◌≤◌}
 use mathlib.Core.Path.{◌≡◌, ◌∙◌, refl, ap}
-use mathlib.Core.List.{◌∷◌}
 use native.Mathlib.Omega.{arith}
-use lib.ListN.{length, replicate}
-use Rattle.att.specs.Text.{state_records}
-use Rattle.att.specs.Survey.{Filled}
+use lib.ListN.{length}
 use Rattle.att.proofs.Filling.{filled_length, filled_self, fresh_some, fresh_length, put_long, states_all, left_first_lem, left_none, left_more}
-use Rattle.att.proofs.put_states.Reads as reads
-use Rattle.att.proofs.put_states.Lts as lts
-use Rattle.att.proofs.put_state.Reads as put-state-reads
 use Rattle.att.proofs.put_states.Goals as goal
 
 -- src/lib.rt:179:9

@@ -1,14 +1,9 @@
-use Prim.Native.Nat.{◌+◌, ◌*◌, ◌≤◌, ◌-◌}
-use mathlib.Core.Path.{◌≡◌, ◌∙◌, refl, ap}
+use Prim.Native.Nat.{◌+◌, ◌≤◌, ◌-◌}
+use mathlib.Core.Path.{◌≡◌}
 use mathlib.Core.List.{◌∷◌}
-use native.Mathlib.Omega.{arith}
 use lib.ListN.{length, replicate}
 use Rattle.att.specs.Text.{state_records}
 use Rattle.att.specs.Survey.{Filled}
-use Rattle.att.proofs.Filling.{filled_length, filled_self, fresh_some, fresh_length, put_long, states_all, left_first_lem, left_none, left_more}
-use Rattle.att.proofs.put_states.Reads as reads
-use Rattle.att.proofs.put_states.Lts as lts
-use Rattle.att.proofs.put_state.Reads as put-state-reads
 use Rattle.att.proofs.put_states.Given as goal
 
 abbrev pub invariant-loop-m : goal.invariant-loop-m

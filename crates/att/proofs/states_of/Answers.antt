@@ -1,8 +1,6 @@
 use mathlib.Core.Path.{sym, ap}
 use lib.ListN.{length}
 use Rattle.att.proofs.Filling.{fresh_zero, fresh_length}
-use Rattle.att.proofs.states_of.Reads as reads
-use Rattle.att.proofs.states_of.Lts as lts
 use Rattle.att.proofs.states_of.Goals as goal
 
 -- src/lib.rt:198:1

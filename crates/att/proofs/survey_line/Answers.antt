@@ -1,9 +1,5 @@
-use borrow.Author.Rules.{rules}
 use mathlib.Core.Path.{refl}
 use native.Mathlib.Omega.{arith}
-use Rattle.att.proofs.survey_line.Reads as reads
-use Rattle.att.proofs.survey_line.Lts as lts
-use Rattle.att.proofs.with_state.Reads as with-state-reads
 use Rattle.att.proofs.survey_line.Goals as goal
 
 -- src/lib.rt:97:13

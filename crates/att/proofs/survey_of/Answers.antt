@@ -31,6 +31,6 @@ loop-survey-preserved c = (
   (
     place_inside _ _ _ c.loop-survey.invariant.0 c.advance-line.ensures.0 _ c.advance-line.ensures.1 c.loop-survey.invariant.1.0,
     (turned _ _ _ c.loop-survey.invariant.0 c.advance-line.ensures.0 _ c.advance-line.ensures.1 _ _ c.loop-survey.invariant.1.1
-    c.loop-survey-test.true c.survey_line-survey.ensures).0,
+        c.loop-survey-test.true c.survey_line-survey.ensures).0,
   ),
 )

@@ -1,7 +1,5 @@
 -- How far the first pass has come is said in Surveying.antt; what is ahead of it gets less with each line.
-use Rattle.std.proofs.Common.{◌≡◌, ◌≤◌, ℕ, List, length}
-use Rattle.att.specs.declared.reading.Lines.{Lines}
-use Rattle.att.specs.declared.Survey.{Survey}
+use Rattle.std.proofs.Common.{◌≡◌, ◌≤◌, length}
 use Rattle.att.proofs.Surveying.{Far, ahead}
 use Rattle.att.proofs.survey_of.Given as goal
 

@@ -1,9 +1,5 @@
 use native.Mathlib.Omega.{arith}
 use Rattle.att.proofs.Names.{entered_many, entered_in, entered_full, entered_new}
-use borrow.Author.Rules.{rules}
-use Rattle.att.proofs.with_state.Reads as reads
-use Rattle.att.proofs.with_state.Lts as lts
-use Rattle.att.proofs.number_of.Reads as number-of-reads
 use Rattle.att.proofs.with_state.Goals as goal
 
 -- src/lib.rt:71:9

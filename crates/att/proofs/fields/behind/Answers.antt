@@ -1,9 +1,5 @@
 use native.Mathlib.Omega.{arith}
 use Rattle.att.proofs.Parting.{before_short, rest_is, rest_none}
-use borrow.Author.Rules.{rules}
-use Rattle.att.proofs.fields.behind.Reads as reads
-use Rattle.att.proofs.fields.behind.Lts as lts
-use Rattle.att.proofs.fields.span.Reads as span-reads
 use Rattle.att.proofs.fields.behind.Goals as goal
 
 pub slice_bounds-result-start-2 : goal.slice_bounds-result-start-2

@@ -10,9 +10,9 @@ pub loop-i-preserved : goal.loop-i-preserved
 loop-i-preserved c =
     elim c.if-l-i-eq-TAB.branch [
       | then-l-i-eq-TAB w ↦
-        (omega arith, (omega arith, count_met _ _ _ c.loop-i.invariant.1.1 c.loop-i-test.true w.if-l-i-eq-TAB.true _ w.n-is))
+          (omega arith, (omega arith, count_met _ _ _ c.loop-i.invariant.1.1 c.loop-i-test.true w.if-l-i-eq-TAB.true _ w.n-is))
       | else-l-i-eq-TAB w ↦
-        (omega arith, (omega arith, count_not _ _ _ c.loop-i.invariant.1.1 c.loop-i-test.true w.if-l-i-eq-TAB.false _ w.n-is))
+          (omega arith, (omega arith, count_not _ _ _ c.loop-i.invariant.1.1 c.loop-i-test.true w.if-l-i-eq-TAB.false _ w.n-is))
     ]
 
 pub returns : goal.returns

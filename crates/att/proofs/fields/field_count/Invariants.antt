@@ -1,12 +1,7 @@
 use Prim.Native.Nat.{◌+◌, ◌-◌, ◌≤◌}
 use mathlib.Core.Path.{◌≡◌}
-use mathlib.Core.Logic.{⊎_elim}
-use native.Mathlib.Omega.{arith}
 use lib.ListN.{length, drop}
 use Rattle.att.specs.Fields.{count, field_count}
-use Rattle.att.proofs.Parting.{count_start, count_met, count_not, count_end}
-use Rattle.att.proofs.fields.field_count.Reads as reads
-use Rattle.att.proofs.fields.field_count.Lts as lts
 use Rattle.att.proofs.fields.field_count.Given as goal
 
 abbrev pub invariant-loop-i : goal.invariant-loop-i

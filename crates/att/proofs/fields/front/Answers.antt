@@ -1,8 +1,4 @@
 use Rattle.att.proofs.Parting.{front_length, front_is}
-use borrow.Author.Rules.{rules}
-use Rattle.att.proofs.fields.front.Reads as reads
-use Rattle.att.proofs.fields.front.Lts as lts
-use Rattle.att.proofs.fields.span.Reads as span-reads
 use Rattle.att.proofs.fields.front.Goals as goal
 
 -- src/fields.rt:38:5

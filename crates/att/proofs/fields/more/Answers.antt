@@ -1,9 +1,6 @@
 use mathlib.Core.Path.{sym}
 use native.Mathlib.Omega.{arith}
 use Rattle.att.proofs.Parting.{capped_small, capped_big}
-use borrow.Author.Rules.{rules}
-use Rattle.att.proofs.fields.more.Reads as reads
-use Rattle.att.proofs.fields.more.Lts as lts
 use Rattle.att.proofs.fields.more.Goals as goal
 
 -- src/fields.rt:96:9

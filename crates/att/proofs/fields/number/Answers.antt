@@ -1,10 +1,4 @@
-use Prim.Native.Nat.{◌-◌}
-use native.Mathlib.Omega.{arith}
-use lib.ListN.{length}
-use Rattle.att.proofs.Parting.{Digits, digits_start, digits_more, number_none, number_low, number_high, number_end}
-use Rattle.att.proofs.fields.number.Reads as reads
-use Rattle.att.proofs.fields.number.Lts as lts
-use Rattle.att.proofs.fields.more.Reads as more-reads
+use Rattle.att.proofs.Parting.{digits_start, digits_more, number_none, number_low, number_high, number_end}
 use Rattle.att.proofs.fields.number.Goals as goal
 
 -- src/fields.rt:72:9

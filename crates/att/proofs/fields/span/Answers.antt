@@ -1,11 +1,5 @@
-use Prim.Native.Nat.{◌+◌, ◌-◌, ◌≤◌}
-use mathlib.Core.Path.{◌≡◌}
 use native.Mathlib.Omega.{arith}
-use lib.ListN.{length, drop}
-use Rattle.att.specs.Fields.{before}
 use Rattle.att.proofs.Parting.{span_met, span_more, span_end}
-use Rattle.att.proofs.fields.span.Reads as reads
-use Rattle.att.proofs.fields.span.Lts as lts
 use Rattle.att.proofs.fields.span.Goals as goal
 
 -- src/fields.rt:26:13

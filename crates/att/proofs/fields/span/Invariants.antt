@@ -1,11 +1,7 @@
 use Prim.Native.Nat.{◌+◌, ◌-◌, ◌≤◌}
 use mathlib.Core.Path.{◌≡◌}
-use native.Mathlib.Omega.{arith}
 use lib.ListN.{length, drop}
 use Rattle.att.specs.Fields.{before}
-use Rattle.att.proofs.Parting.{span_met, span_more, span_end}
-use Rattle.att.proofs.fields.span.Reads as reads
-use Rattle.att.proofs.fields.span.Lts as lts
 use Rattle.att.proofs.fields.span.Given as goal
 
 abbrev pub invariant-loop-i : goal.invariant-loop-i

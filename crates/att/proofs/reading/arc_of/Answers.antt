@@ -1,8 +1,5 @@
 use native.Mathlib.Omega.{arith}
 use Rattle.att.proofs.Rows.{arc_from, arc_to, arc_none, arc_empty, arc_high, arc_whole}
-use borrow.Author.Rules.{rules}
-use Rattle.att.proofs.reading.arc_of.Reads as reads
-use Rattle.att.proofs.reading.arc_of.Lts as lts
 use Rattle.att.proofs.reading.arc_of.Goals as goal
 
 -- src/reading.rt:48:9

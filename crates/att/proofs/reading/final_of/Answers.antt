@@ -1,8 +1,5 @@
 use borrow.Author.Tests.{lt-ltb, le-ltb}
 use Rattle.att.specs.Numbers.{final_of}
-use borrow.Author.Rules.{rules}
-use Rattle.att.proofs.reading.final_of.Reads as reads
-use Rattle.att.proofs.reading.final_of.Lts as lts
 use Rattle.att.proofs.reading.final_of.Goals as goal
 
 -- src/reading.rt:38:9

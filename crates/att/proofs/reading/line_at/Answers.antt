@@ -2,11 +2,6 @@ use mathlib.Core.Path.{◌∙◌}
 use borrow.Author.Tests.{le-leb}
 use Rattle.att.specs.Reading.{line_at}
 use Rattle.att.proofs.Rows.{line_length_lem, line_ended, line_cut}
-use borrow.Author.Rules.{rules}
-use Rattle.att.proofs.reading.line_at.Reads as reads
-use Rattle.att.proofs.reading.line_at.Lts as lts
-use Rattle.att.proofs.reading.line_in.Reads as line-in-reads
-use Rattle.att.proofs.fields.span.Reads as span-reads
 use Rattle.att.proofs.reading.line_at.Goals as goal
 
 -- src/reading.rt:110:9

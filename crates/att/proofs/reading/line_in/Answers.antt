@@ -1,12 +1,6 @@
 use mathlib.Core.Path.{◌∙◌}
 use native.Mathlib.Omega.{arith}
 use Rattle.att.proofs.Rows.{line_two, line_four, line_open, line_final, line_arc, line_other}
-use borrow.Author.Rules.{rules}
-use Rattle.att.proofs.reading.line_in.Reads as reads
-use Rattle.att.proofs.reading.line_in.Lts as lts
-use Rattle.att.proofs.reading.arc_line.Reads as arc-line-reads
-use Rattle.att.proofs.fields.field_count.Reads as field-count-reads
-use Rattle.att.proofs.reading.final_line.Reads as final-line-reads
 use Rattle.att.proofs.reading.line_in.Goals as goal
 
 -- src/reading.rt:88:9
