@@ -140,7 +140,7 @@ pub extern "C" fn qafrendi_show(tape_length: usize, lines: &[u16], line: usize) 
     }
 }
 
-// The lanes and the answer are the operation's own types, which have C's layout. Its proof walks it step by step, for it is lent a slice of structs.
+// The lanes and the answer are the operation's own types, which have C's layout.
 #[unsafe(no_mangle)]
 pub extern "C" fn qafrendi_heat(
     book: &[u8],
