@@ -183,6 +183,7 @@ fn put_states(out: &mut [u8], part: u8, n: usize)
 }
 
 // The flags of a final state: the first is the start too.
+#[tactic(auto, unfolding(crate::specs::Survey::final_flags))]
 fn final_flags(k: usize) -> u8
     ensures { result ≡ final_flags k }
 {
@@ -263,6 +264,7 @@ fn put_lines(
 }
 
 // An accepted text's answer by its numbers of arcs and states.
+#[tactic(auto, unfolding(crate::specs::Text::answer_by))]
 fn judged(arcs: usize, states: usize, first: usize, room: usize) -> Written
     requires { (states ≤ most_states + 1) × (first ≤ 255) }
     ensures { result ≡ answer_by arcs states first room }
@@ -315,6 +317,7 @@ fn plan_of(text: &[u8], first: u8, room: usize) -> Plan
 }
 
 // Document 02's IMPORT: any text, part, first number and buffer get their reply.
+#[tactic(auto, using(crate::proofs::Planning::import_part))]
 pub fn import(text: &[u8], part: u8, first: u8, out: &mut [u8]) -> Written
     ensures { import_leaves result out.new ≡ import_def text.now part first out.old }
 {

@@ -1,12 +1,8 @@
 use mathlib.Core.Path.{◌∙◌, sym}
 use native.Mathlib.Omega.{arith}
 use Rattle.att.proofs.Answers.{answer_read_lem}
-use Rattle.att.proofs.Planning.{import_part, import_refused, import_done, room_states, ready, whole_filled}
+use Rattle.att.proofs.Planning.{import_refused, import_done, room_states, ready, whole_filled}
 use Rattle.att.proofs.import.Goals as goal
-
--- src/lib.rt:334:9
-pub returns-then-part-gt-RIGHT : goal.returns-then-part-gt-RIGHT
-returns-then-part-gt-RIGHT c = import_part _ _ _ _ _ (omega arith) c.refused.ensures
 
 -- src/lib.rt:340:9
 pub returns-then-answer-ne0 : goal.returns-then-answer-ne0
