@@ -1,31 +1,24 @@
--- The contracts of `put`, `put_all` and `flush` determine what they give and how they leave the text; what is written out no contract can say.
--- Assumes nothing.
-use mathlib.Core.Path.{◌≡◌, sym, ◌∙◌}
-use contract.Lifetimes.{Lfts}
-use denote.Triple.Clauses.{Lasts, at_exit}
-use borrow.Fn.Kinds.{Dens, res_t, ended_of}
-use Rattle.text.proofs.put.Kinds as put-kinds
-use Rattle.text.proofs.put.Reads as put_reads
-use Rattle.text.proofs.put_all.Kinds as all_kinds
-use Rattle.text.proofs.put_all.Reads as all-reads
-use Rattle.text.proofs.flush.Kinds as flush-kinds
-use Rattle.text.proofs.flush.Reads as flush-reads
+-- The contracts of `put`, `put_all`, `put_number` and `flush` determine what they give and how they leave the text, where nothing that is written
+-- out fails; what is written out no contract can say. `t` is what the text held at the call, and the premises are two answers' clauses. Assumes nothing.
+use Rattle.std.proofs.Common.{ℕ, ◌≡◌, ◌∙◌, sym, List}
+use Rattle.std.specs.Prelude.{decimal}
+use Rattle.text.specs.Text.{Text, holds, put_one, put_all}
 
 -- the place of the next byte, and the text's bytes
-pub one_put : (κs : Lfts 1) (a : Dens κs put-kinds.ps) (x y : (res_t put-kinds.r κs).Denot) (v w : Lasts (ended_of 1 put-kinds.ps put-kinds.r) κs a)
-    → put_reads.Post κs a x (at_exit (ended_of 1 put-kinds.ps put-kinds.r) κs a v)
-    → put_reads.Post κs a y (at_exit (ended_of 1 put-kinds.ps put-kinds.r) κs a w)
-    → (x ≡ y) × (v ≡ w)
-one_put κs a x y v w p q = let e = p.0 ∙ sym q.0 in (λ i. (e i).used, λ i. ((e i).bytes, (tt, (tt, tt))))
+one : (t : Text) (x y : ℕ) (v w : List ℕ) → holds v x ≡ t → holds w y ≡ t → (x ≡ y) × (v ≡ w)
+one t x y v w p q = let e : holds v x ≡ holds w y = p ∙ sym q in (λ i. (e i).used, λ i. (e i).bytes)
 
-pub one_put_all : (κs : Lfts 2) (a : Dens κs all_kinds.ps) (x y : (res_t all_kinds.r κs).Denot) (v w : Lasts (ended_of 2 all_kinds.ps all_kinds.r) κs a)
-    → all-reads.Post κs a x (at_exit (ended_of 2 all_kinds.ps all_kinds.r) κs a v)
-    → all-reads.Post κs a y (at_exit (ended_of 2 all_kinds.ps all_kinds.r) κs a w)
-    → (x ≡ y) × (v ≡ w)
-one_put_all κs a x y v w p q = let e = p.0 ∙ sym q.0 in (λ i. (e i).used, λ i. ((e i).bytes, (tt, (tt, tt))))
+pub one_put : (t : Text) (b x y : ℕ) (v w : List ℕ) → holds v x ≡ put_one t b → holds w y ≡ put_one t b → (x ≡ y) × (v ≡ w)
+one_put t b = one (put_one t b)
 
-pub one_flush : (κs : Lfts 1) (a : Dens κs flush-kinds.ps) (x y : (res_t flush-kinds.r κs).Denot) (v w : Lasts (ended_of 1 flush-kinds.ps flush-kinds.r) κs a)
-    → flush-reads.Post κs a x (at_exit (ended_of 1 flush-kinds.ps flush-kinds.r) κs a v)
-    → flush-reads.Post κs a y (at_exit (ended_of 1 flush-kinds.ps flush-kinds.r) κs a w)
-    → x ≡ y
-one_flush κs a x y v w p q = p ∙ sym q
+pub one_put_all : (t : Text) (s : List ℕ) (x y : ℕ) (v w : List ℕ) → holds v x ≡ put_all t s → holds w y ≡ put_all t s → (x ≡ y) × (v ≡ w)
+one_put_all t s = one (put_all t s)
+
+pub one_put_number : (t : Text) (n x y : ℕ) (v w : List ℕ)
+    → holds v x ≡ put_all t (decimal n)
+    → holds w y ≡ put_all t (decimal n)
+    → (x ≡ y) × (v ≡ w)
+one_put_number t n = one (put_all t (decimal n))
+
+pub one_flush : (x y : ℕ) → x ≡ 0 → y ≡ 0 → x ≡ y
+one_flush x y p q = p ∙ sym q

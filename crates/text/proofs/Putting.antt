@@ -1,22 +1,22 @@
 -- Laws of a text: one byte put at its last place and before it, and all bytes of a list one after the other. Assumes nothing.
-use Prim.Native.Nat.{ℕ, ◌+◌, ◌≤◌, ◌<◌}
-use native.Mathlib.Numerals.{add-one}
-use mathlib.Core.Path.{◌≡◌}
-use mathlib.Core.List.{List}
-use borrow.Author.Tests.{eq-eqb, ne_eqb}
-use lib.ListN.{length, set, drop, get_or, drop_of_length-le}
-use lib.Seq.{drop-cons}
+use Rattle.std.proofs.Common.{ℕ, ◌+◌, ◌≤◌, ◌<◌, ◌≡◌, List, length, get_or, drop, add-one, drop-cons, drop_of_length-le, arith}
+use Rattle.std.specs.Prelude.{set}
 use Rattle.text.specs.Text.{Text, holds, put_one, put_all}
 
 module _ (l : List ℕ) (used b : ℕ) where
+  -- the byte stands, whether the text is full or not
+  pub put_bytes : (put_one (holds l used) b).bytes ≡ set l used b
+  unfolding put_one
+  put_bytes i = set l used b
+
   -- the text is full, and begins anew
   pub put_last : used + 1 ≡ length l → holds (set l used b) 0 ≡ put_one (holds l used) b
   unfolding put_one
-  put_last e = simp (eq-eqb (used + 1) (length l) e)
+  put_last e = grind arith
 
   pub put_before : (used + 1 ≡ length l → ⊥) → holds (set l used b) (used + 1) ≡ put_one (holds l used) b
   unfolding put_one
-  put_before d = simp (ne_eqb (used + 1) (length l) d)
+  put_before d = grind arith
 
 module _ (t : Text) (s : List ℕ) (i : ℕ) where
   pub all_next : i < length s → put_all (put_one t (get_or s i 0)) (drop (i + 1) s) ≡ put_all t (drop i s)
