@@ -1,15 +1,16 @@
-// Document 01's program: tapes as lines of digits, 0 to 9 and a to v, on standard input, each rewritten and accounted for by the house book.
 #![tactic(auto)]
 
-ghost use Rattle.std.specs.Prelude.{◌≡◌, ◌≤◌, ◌<◌, length};
+// Document 01's program: tapes as lines of digits, 0 to 9 and a to v, on standard input, each rewritten and accounted for by the house book.
+ghost use Rattle.std.specs.Prelude.{◌≡◌, ◌≤◌, ◌<◌, length, IfOk};
 ghost use Rattle.pads.specs.Digits.{symbol_of};
 
 mod print; // print.rt: the lines printed
 
 use book::SYMBOLS;
-use libc::STDIN_FILENO;
 use print::LETTERS;
 use rewriter::LONGEST_TAPE;
+use std::io;
+use std::io::Read;
 
 // The bytes of one read, and the bytes printed at once.
 const CHUNK: usize = 65536;
@@ -96,9 +97,9 @@ fn feed(chunk: &[u8], from: usize, tape: &mut [u8], had: usize) -> Fed
 }
 
 // The lines of REWRITE: W and O, or X.
-fn rewrite_tape(text: &mut [u8], used: usize, tape: &[u8]) -> Rewrote
+fn rewrite_tape(rt: &impl Print, text: &mut [u8], used: usize, tape: &[u8]) -> io::Result<Rewrote>
     requires { used < length text.old }
-    ensures { result.used < length text.old }
+    ensures { IfOk result (λ w. w.used < length text.old) }
 {
     let book = house::house_book();
     let mut rows = [0u8; sets::ROW_BYTES];
@@ -117,24 +118,24 @@ fn rewrite_tape(text: &mut [u8], used: usize, tape: &[u8]) -> Rewrote
     );
     let reply = r.reply;
     if reply != 0 {
-        let at = print::put_refusal(text, used, reply as u64, r.place as u64);
-        return Rewrote {
+        let at = print::put_refusal(rt, text, used, reply as u64, r.place as u64)?;
+        return Ok(Rewrote {
             used: at,
             accepted: false,
-        };
+        });
     }
     let n = r.length;
-    let at = print::put_output(text, used, r.taken as u64, &out[..n], &origins[..n]);
-    Rewrote {
+    let at = print::put_output(rt, text, used, r.taken as u64, &out[..n], &origins[..n])?;
+    Ok(Rewrote {
         used: at,
         accepted: true,
-    }
+    })
 }
 
 // The lines of ACCOUNT: a C line for each candidate, or X.
-fn account_tape(text: &mut [u8], used: usize, tape: &[u8]) -> usize
+fn account_tape(rt: &impl Print, text: &mut [u8], used: usize, tape: &[u8]) -> io::Result<usize>
     requires { used < length text.old }
-    ensures { result < length text.old }
+    ensures { IfOk result (λ next. next < length text.old) }
 {
     let book = house::house_book();
     let mut rows = [0u8; sets::ROW_BYTES];
@@ -144,27 +145,33 @@ fn account_tape(text: &mut [u8], used: usize, tape: &[u8]) -> usize
     let r = rewriter::account(&book, tape, &mut rows, &mut sets, &mut scratch, &mut lines);
     let reply = r.reply;
     if reply != 0 {
-        return print::put_refusal(text, used, reply as u64, r.place as u64);
+        return print::put_refusal(rt, text, used, reply as u64, r.place as u64);
     }
-    print::put_account(text, used, &lines, r.candidates)
+    print::put_account(rt, text, used, &lines, r.candidates)
 }
 
 // All lines of one tape. "A refusal prints X, number, place, and ends that tape; for a short account it follows W and O."
-fn answer(text: &mut [u8], used: usize, tape: &[u8]) -> usize
+fn answer(rt: &impl Print, text: &mut [u8], used: usize, tape: &[u8]) -> io::Result<usize>
     requires { used < length text.old }
-    ensures { result < length text.old }
+    ensures { IfOk result (λ next. next < length text.old) }
 {
-    let w = rewrite_tape(text, used, tape);
+    let w = rewrite_tape(rt, text, used, tape)?;
     if w.accepted {
-        return account_tape(text, w.used, tape);
+        return account_tape(rt, text, w.used, tape);
     }
-    w.used
+    Ok(w.used)
 }
 
 // Answers each line that ends in the chunk.
-fn answer_lines(chunk: &[u8], tape: &mut [u8], text: &mut [u8], held: Held) -> Held
+fn answer_lines(
+    rt: &impl Print,
+    chunk: &[u8],
+    tape: &mut [u8],
+    text: &mut [u8],
+    held: Held,
+) -> io::Result<Held>
     requires { (held.n ≤ length tape.old) × (held.used < length text.old) }
-    ensures { (result.n ≤ length tape.old) × (result.used < length text.old) }
+    ensures { IfOk result (λ r. (r.n ≤ length tape.old) × (r.used < length text.old)) }
 {
     let mut n = held.n;
     let mut used = held.used;
@@ -174,71 +181,81 @@ fn answer_lines(chunk: &[u8], tape: &mut [u8], text: &mut [u8], held: Held) -> H
         at = f.at;
         n = f.n;
         if f.ended {
-            used = answer(text, used, &tape[..n]);
+            used = answer(rt, text, used, &tape[..n])?;
             n = 0;
         }
     }
-    Held { n, used }
+    Ok(Held { n, used })
 }
 
 // One read, and the lines that end in it.
-fn read_some(chunk: &mut [u8], tape: &mut [u8], text: &mut [u8], held: Held) -> Step
+fn read_some(
+    rt: &impl Print,
+    reader: &mut impl Read,
+    chunk: &mut [u8],
+    tape: &mut [u8],
+    text: &mut [u8],
+    held: Held,
+) -> io::Result<Step>
     requires { (held.n ≤ length tape.old) × (held.used < length text.old) }
-    ensures { (result.n ≤ length tape.old) × (result.used < length text.old) }
+    ensures { IfOk result (λ r. (r.n ≤ length tape.old) × (r.used < length text.old)) }
 {
-    let got = libc::read(STDIN_FILENO, chunk);
-    if got <= 0 {
-        return Step {
+    let got = reader.read(chunk)?;
+    if got == 0 {
+        return Ok(Step {
             n: held.n,
             used: held.used,
             more: false,
-        };
+        });
     }
-    let k = io::count(got, chunk);
-    let r = answer_lines(&chunk[..k], tape, text, held);
-    Step {
+    let r = answer_lines(rt, &chunk[..got], tape, text, held)?;
+    Ok(Step {
         n: r.n,
         used: r.used,
         more: true,
-    }
+    })
 }
 
 // "A last line needs no newline." An empty one is no line. Then what is left of the text goes out.
-fn finish(tape: &[u8], text: &mut [u8], held: Held)
+fn finish(rt: &impl Print, tape: &[u8], text: &mut [u8], held: Held) -> io::Result<()>
     requires { (held.n ≤ length tape.now) × (held.used < length text.old) }
 {
     let n = held.n;
     if 0 < n {
-        let used = answer(text, held.used, &tape[..n]);
-        text::flush(text, used);
+        let used = answer(rt, text, held.used, &tape[..n])?;
+        text::flush(rt, text, used)?;
     } else {
-        text::flush(text, held.used);
+        text::flush(rt, text, held.used)?;
     }
+    Ok(())
 }
 
-// Reads to the end. Nothing says that the input ends, so the reads are counted down from a number that no run uses up.
-fn run(chunk: &mut [u8], tape: &mut [u8], text: &mut [u8])
+// Reads to the end. Nothing says that the input ends, so the reads are counted, up to a number that no run uses up.
+fn run(
+    rt: &(impl Input + Print),
+    chunk: &mut [u8],
+    tape: &mut [u8],
+    text: &mut [u8],
+) -> io::Result<()>
     requires { 0 < length text.old }
 {
+    let mut reader = rt.reader();
     let mut n = 0;
     let mut used = 0;
-    let mut reads = u64::MAX;
-    while reads > 0 {
-        let s = read_some(chunk, tape, text, Held { n, used });
+    for _ in 0..u64::MAX {
+        let s = read_some(rt, &mut reader, chunk, tape, text, Held { n, used })?;
         n = s.n;
         used = s.used;
-        if s.more {
-            reads -= 1;
-        } else {
-            reads = 0;
+        if !s.more {
+            break;
         }
     }
-    finish(tape, text, Held { n, used });
+    finish(rt, tape, text, Held { n, used })
 }
 
-fn main() {
+fn main(rt: HostRuntime) -> io::Result<()> {
     let mut chunk = [0u8; CHUNK];
     let mut tape = [0u8; KEPT];
     let mut text = [0u8; CHUNK];
-    run(&mut chunk, &mut tape, &mut text);
+    run(&rt, &mut chunk, &mut tape, &mut text)
 }
