@@ -1,3 +1,5 @@
+#![tactic(auto)]
+
 // A case of the programs checks and tapes: a book, a tape and room are handed to an operation, and its reply with its place, its counts and
 // what stands in each buffer afterwards are compared. It prints a line: ok or WRONG, operation, reply, place.
 #![tactic(auto)]
@@ -11,9 +13,9 @@ pub mod books; // books.rt: the books of the cases
 pub mod expect; // expect.rt: what must stand in each buffer
 mod hold; // hold.rt: whole buffers compared
 
-use libc::STDOUT_FILENO;
 use rewriter::{Accounted, LINE_WORDS, LONGEST_TAPE, Rewritten};
 use sets::Built;
+use std::io;
 
 // The room there is: some elements more than the workspace, the scratch of the longest tape, its output and its account need. Every
 // second symbol of that tape becomes two.
@@ -27,11 +29,14 @@ const OUT: usize = LONGEST_TAPE + LONGEST_TAPE / 2 + 6;
 
 const LINES: usize = LINE_WORDS * (LONGEST_TAPE / 2) + 10;
 
+// The bytes printed at once: any line that the cases have.
+const LINE: usize = 128;
+
 // The length of a tape that is refused for it.
 pub const TOO_LONG: usize = LONGEST_TAPE + 1;
 
 // What a case must answer; `tables` names what acceptance leaves in the workspace.
-#[derive(Drop)]
+#[derive(Clone, Copy)]
 pub struct Want {
     pub tables: u8,
     pub reply: u8,
@@ -42,7 +47,7 @@ pub struct Want {
 }
 
 // How many elements of each buffer are lent.
-#[derive(Drop)]
+#[derive(Clone, Copy)]
 pub struct Lent {
     pub rows: usize,
     pub sets: usize,
@@ -54,7 +59,7 @@ pub struct Lent {
 
 // What one buffer must hold: which it is, what stands in the workspace, and how far it is written: of the scratch up to and with the
 // tape's length, of the output and the origins the first elements, of an account the first lines.
-#[derive(Drop)]
+#[derive(Clone, Copy)]
 struct Expected {
     buffer: u8,
     tables: u8,
@@ -129,20 +134,29 @@ pub fn front<'a>(bytes: &'a [u8], n: usize) -> &'a [u8]
     bytes
 }
 
-pub fn report(ok: bool, operation: &[u8], want: Want, note: &[u8]) {
-    if ok {
-        io::write_all(STDOUT_FILENO, b"ok ");
+pub fn report(
+    rt: &impl Print,
+    ok: bool,
+    operation: &[u8],
+    want: Want,
+    note: &[u8],
+) -> io::Result<()> {
+    let mut line = [0u8; LINE];
+    let mut at = if ok {
+        text::put_all(rt, &mut line, 0, b"ok ")?
     } else {
-        io::write_all(STDOUT_FILENO, b"WRONG ");
-    }
-    io::write_all(STDOUT_FILENO, operation);
-    io::write_all(STDOUT_FILENO, b" ");
-    io::print_decimal(STDOUT_FILENO, want.reply as u64);
-    io::write_all(STDOUT_FILENO, b" ");
-    io::print_decimal(STDOUT_FILENO, want.place as u64);
-    io::write_all(STDOUT_FILENO, b" ");
-    io::write_all(STDOUT_FILENO, note);
-    io::write_all(STDOUT_FILENO, b"\n");
+        text::put_all(rt, &mut line, 0, b"WRONG ")?
+    };
+    at = text::put_all(rt, &mut line, at, operation)?;
+    at = text::put(rt, &mut line, at, b' ')?;
+    at = text::put_number(rt, &mut line, at, want.reply as u64)?;
+    at = text::put(rt, &mut line, at, b' ')?;
+    at = text::put_number(rt, &mut line, at, want.place as u64)?;
+    at = text::put(rt, &mut line, at, b' ')?;
+    at = text::put_all(rt, &mut line, at, note)?;
+    at = text::put(rt, &mut line, at, b'\n')?;
+    text::flush(rt, &line, at)?;
+    Ok(())
 }
 
 fn numbers_are(
@@ -160,14 +174,15 @@ fn numbers_are(
         & (third == want.third)
 }
 
-pub fn check_case(book: &[u8], want: Want, note: &[u8]) {
+pub fn check_case(rt: &impl Print, book: &[u8], want: Want, note: &[u8]) -> io::Result<()> {
     let r = book::check(book);
     report(
+        rt,
         numbers_are(want, r.reply, r.place, r.rules, r.states, r.arcs),
         b"CHECK",
         want,
         note,
-    );
+    )
 }
 
 fn built(rows: &[u8], sets: &[u64], tables: u8) -> bool {
@@ -220,7 +235,13 @@ fn build(book: &[u8], rows: &mut [u8], sets: &mut [u64], lent: Lent) -> Built
     sets::build(book, &mut rows[0..some_rows], &mut sets[0..some_sets])
 }
 
-pub fn build_case(book: &[u8], lent: Lent, want: Want, note: &[u8])
+pub fn build_case(
+    rt: &impl Print,
+    book: &[u8],
+    lent: Lent,
+    want: Want,
+    note: &[u8],
+) -> io::Result<()>
     requires { Room lent }
 {
     let mut rows = [expect::OLD; ROOM_ROWS];
@@ -228,7 +249,7 @@ pub fn build_case(book: &[u8], lent: Lent, want: Want, note: &[u8])
     let r = build(book, &mut rows, &mut sets, lent);
     let tables = expect::tables_after(want.reply, want.tables);
     let ok = built(&rows, &sets, tables) & numbers_are(want, r.reply, r.place, r.left, r.right, 0);
-    report(ok, b"BUILD", want, note);
+    report(rt, ok, b"BUILD", want, note)
 }
 
 // REWRITE with as much of each buffer as is lent.
@@ -261,7 +282,14 @@ fn rewrite(
     )
 }
 
-pub fn rewrite_case(book: &[u8], tape: &[u8], lent: Lent, want: Want, note: &[u8])
+pub fn rewrite_case(
+    rt: &impl Print,
+    book: &[u8],
+    tape: &[u8],
+    lent: Lent,
+    want: Want,
+    note: &[u8],
+) -> io::Result<()>
     requires { Room lent }
 {
     let mut rows = [expect::OLD; ROOM_ROWS];
@@ -283,7 +311,7 @@ pub fn rewrite_case(book: &[u8], tape: &[u8], lent: Lent, want: Want, note: &[u8
     let ok = passed(&rows, &sets, &scratch, tables, tape.len())
         & written(&out, &origins, want.first)
         & numbers_are(want, r.reply, r.place, r.length, r.taken, 0);
-    report(ok, b"REWRITE", want, note);
+    report(rt, ok, b"REWRITE", want, note)
 }
 
 // ACCOUNT with as much of each buffer as is lent.
@@ -313,7 +341,14 @@ fn account(
     )
 }
 
-pub fn account_case(book: &[u8], tape: &[u8], lent: Lent, want: Want, note: &[u8])
+pub fn account_case(
+    rt: &impl Print,
+    book: &[u8],
+    tape: &[u8],
+    lent: Lent,
+    want: Want,
+    note: &[u8],
+) -> io::Result<()>
     requires { Room lent }
 {
     let mut rows = [expect::OLD; ROOM_ROWS];
@@ -333,5 +368,5 @@ pub fn account_case(book: &[u8], tape: &[u8], lent: Lent, want: Want, note: &[u8
     let ok = passed(&rows, &sets, &scratch, tables, tape.len())
         & listed(&lines, want.first)
         & numbers_are(want, r.reply, r.place, r.candidates, 0, 0);
-    report(ok, b"ACCOUNT", want, note);
+    report(rt, ok, b"ACCOUNT", want, note)
 }

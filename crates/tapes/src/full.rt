@@ -4,6 +4,7 @@ use book::{END_SIZE, RULE_SIZE, RULES, STATE_SIZE, WORD};
 use cases::expect::FULL;
 use cases::{accepted, account_case, ample, build_case, check_case, refused, rewrite_case};
 use rewriter::{LINE_WORDS, LONGEST_TAPE};
+use std::io;
 
 // The records of one rule: each of its parts has the empty word alone.
 const RECORDS: usize = RULE_SIZE + 3 * STATE_SIZE;
@@ -33,34 +34,37 @@ fn repeat(bytes: &mut [u8]) {
     }
 }
 
-fn full_cases(book: &[u8], tape: &[u8]) {
+fn full_cases(rt: &impl Print, book: &[u8], tape: &[u8]) -> io::Result<()> {
     check_case(
+        rt,
         book,
         accepted(FULL, RULES, 3 * RULES, 0),
         b"16 rules that put in everywhere",
-    );
-    build_case(book, ample(), accepted(FULL, 1, 1, 0), b"no arc");
+    )?;
+    build_case(rt, book, ample(), accepted(FULL, 1, 1, 0), b"no arc")?;
     rewrite_case(
+        rt,
         book,
         tape,
         ample(),
         refused(FULL, 15, LONGEST_OUT),
         b"the longest output",
-    );
+    )?;
     account_case(
+        rt,
         book,
         tape,
         ample(),
         refused(FULL, 15, LINE_WORDS * RULES * POSITIONS),
         b"65,552 candidates",
-    );
+    )
 }
 
-pub(crate) fn all() {
+pub(crate) fn all(rt: &impl Print) -> io::Result<()> {
     let mut book = [0u8; BYTES];
     repeat(&mut book);
     book[ALL_RECORDS] = book::END;
     let mut tape = [0u8; LONGEST_TAPE];
     tape_of(&mut tape);
-    full_cases(&book, &tape);
+    full_cases(rt, &book, &tape)
 }

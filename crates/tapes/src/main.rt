@@ -1,3 +1,5 @@
+#![tactic(auto)]
+
 // Runs what document 01 gives of BUILD, REWRITE, ACCOUNT and SHOW and does not mark as proved, and compares: the limits, and every reply number of
 // theirs with its place, its counts and what stands in each buffer afterwards. A line a case: ok or WRONG, operation, reply, place.
 #![tactic(auto)]
@@ -11,6 +13,7 @@ use cases::{
 };
 use rewriter::{LINE_WORDS, LONGEST_TAPE};
 use sets::{ROW_BYTES, SET_WORDS};
+use std::io;
 
 // The longest tape has so many stretches.
 const STRETCHES: usize = LONGEST_TAPE * (LONGEST_TAPE + 1) / 2;
@@ -25,32 +28,41 @@ fn tape_of(tape: &mut [u8]) {
 }
 
 // All symbols of the longest tape become nothing in one stretch; each of its stretches is a candidate.
-fn long_cases() {
+fn long_cases(rt: &impl Print) -> io::Result<()> {
     let book = books::long();
     let mut tape = [0u8; LONGEST_TAPE];
     tape_of(&mut tape);
     rewrite_case(
+        rt,
         &book,
         &tape,
         lend(ROW_BYTES, SET_WORDS, LONGEST_TAPE + 1, 0, 0, 0),
         accepted(LONG, 0, 1, 0),
         b"an empty output",
-    );
+    )?;
     account_case(
+        rt,
         &book,
         &tape,
         ample(),
         refused(LONG, 15, LINE_WORDS * STRETCHES),
         b"8,390,656 candidates",
-    );
+    )
 }
 
 // The part that SHOW hands back of a tape of four symbols, and where it starts.
-fn show_case(lines: &[u16], line: usize, part: &[u8], start: usize, note: &[u8]) {
+fn show_case(
+    rt: &impl Print,
+    lines: &[u16],
+    line: usize,
+    part: &[u8],
+    start: usize,
+    note: &[u8],
+) -> io::Result<()> {
     let tape = [5u8, 6, 7, 8];
     let b = rewriter::bounds_of(tape.len(), lines, line);
     let shown = rewriter::show(&tape, lines, line);
-    let ok = check::same(shown, part) & (b.start == start);
+    let ok = (shown == part) & (b.start == start);
     let want = Want {
         tables: UNTOUCHED,
         reply: 0,
@@ -59,38 +71,40 @@ fn show_case(lines: &[u16], line: usize, part: &[u8], start: usize, note: &[u8])
         second: 0,
         third: 0,
     };
-    report(ok, b"SHOW", want, note);
+    report(rt, ok, b"SHOW", want, note)
 }
 
-fn show_cases() {
+fn show_cases(rt: &impl Print) -> io::Result<()> {
     let lines = [0, 1, 3, 0, 1, 0, 1, 2, 4, 0, 2, 1];
-    show_case(&lines, 0, &[6, 7], 1, b"a stretch");
-    show_case(&lines, 1, &[7, 8], 2, b"the second line");
-    show_case(&[0, 2, 2, 0, 2, 0], 0, &[], 2, b"an empty stretch");
+    show_case(rt, &lines, 0, &[6, 7], 1, b"a stretch")?;
+    show_case(rt, &lines, 1, &[7, 8], 2, b"the second line")?;
+    show_case(rt, &[0, 2, 2, 0, 2, 0], 0, &[], 2, b"an empty stretch")?;
     show_case(
+        rt,
         &[0, 4, 4, 0, 4, 0],
         0,
         &[],
         4,
         b"an empty stretch at the tape's end",
-    );
-    show_case(&[0, 3, 2, 0, 3, 0], 0, &[], 0, b"start above end");
-    show_case(&[0, 3, 5, 0, 3, 0], 0, &[], 0, b"end past the tape");
+    )?;
+    show_case(rt, &[0, 3, 2, 0, 3, 0], 0, &[], 0, b"start above end")?;
+    show_case(rt, &[0, 3, 5, 0, 3, 0], 0, &[], 0, b"end past the tape")?;
     show_case(
+        rt,
         &[0, 5, 5, 0, 5, 0],
         0,
         &[],
         0,
         b"an empty stretch past the tape",
-    );
-    show_case(&[0, 0, 1, 0, 0], 0, &[], 0, b"a cut line");
-    show_case(&lines, 2, &[], 0, b"one past the last line");
-    show_case(&lines, usize::MAX, &[], 0, b"no such line");
+    )?;
+    show_case(rt, &[0, 0, 1, 0, 0], 0, &[], 0, b"a cut line")?;
+    show_case(rt, &lines, 2, &[], 0, b"one past the last line")?;
+    show_case(rt, &lines, usize::MAX, &[], 0, b"no such line")
 }
 
-fn main() {
-    pair::all();
-    long_cases();
-    full::all();
-    show_cases();
+fn main(rt: HostRuntime) -> io::Result<()> {
+    pair::all(&rt)?;
+    long_cases(&rt)?;
+    full::all(&rt)?;
+    show_cases(&rt)
 }
