@@ -138,11 +138,9 @@ fn mirrored(number: usize) -> u64
 {
     let mut from = number;
     let mut to: u64 = 0;
-    let mut left: usize = 8;
-    while 0 < left {
+    for _ in 0..8 {
         to = to % 128 * 2 + (from % 2) as u64;
         from /= 2;
-        left -= 1;
     }
     to
 }

@@ -2,12 +2,10 @@
 use super::{Expected, expect};
 
 pub(crate) fn bytes_hold(bytes: &[u8], e: Expected) -> bool {
-    let mut i = 0;
-    while i < bytes.len() {
-        if bytes[i] != expect::byte(e, i) {
+    for (i, b) in bytes.iter().enumerate() {
+        if *b != expect::byte(e, i) {
             return false;
         }
-        i += 1;
     }
     true
 }
@@ -17,23 +15,19 @@ fn wide(x: u16) -> usize {
 }
 
 pub(crate) fn words_hold(words: &[u16], e: Expected) -> bool {
-    let mut i = 0;
-    while i < words.len() {
-        if wide(words[i]) != expect::word(e, i) {
+    for (i, word) in words.iter().enumerate() {
+        if wide(*word) != expect::word(e, i) {
             return false;
         }
-        i += 1;
     }
     true
 }
 
 pub(crate) fn sets_hold(sets: &[u64], tables: u8) -> bool {
-    let mut i = 0;
-    while i < sets.len() {
-        if sets[i] != expect::set(tables, i) {
+    for (i, set) in sets.iter().enumerate() {
+        if *set != expect::set(tables, i) {
             return false;
         }
-        i += 1;
     }
     true
 }

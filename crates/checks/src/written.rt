@@ -16,12 +16,9 @@ pub(crate) fn change(book: &mut [u8], at: usize, b: u8) -> bool {
 
 fn put(book: &mut [u8], from: usize, bytes: &[u8]) -> usize {
     let mut at = from;
-    let mut i = 0;
-    while i < bytes.len() {
-        let b = bytes[i];
-        i += 1;
+    for b in bytes {
         if at < book.len() {
-            book[at] = b;
+            book[at] = *b;
             at += 1;
         }
     }
@@ -31,10 +28,8 @@ fn put(book: &mut [u8], from: usize, bytes: &[u8]) -> usize {
 // The bytes n times.
 fn repeat(book: &mut [u8], from: usize, bytes: &[u8], n: usize) -> usize {
     let mut at = from;
-    let mut i = 0;
-    while i < n {
+    for _ in 0..n {
         at = put(book, at, bytes);
-        i += 1;
     }
     at
 }
@@ -59,11 +54,9 @@ fn chain_arc(j: u8, asked: u8, symbol: u8) -> [u8; book::ARC_SIZE]
 
 fn chain_arcs(book: &mut [u8], from: usize, k: u8, asked: u8, symbol: u8) -> usize {
     let mut at = from;
-    let mut j = 0;
-    while j < k {
+    for j in 0..k {
         let arc = chain_arc(j, asked, symbol);
         at = put(book, at, &arc);
-        j += 1;
     }
     at
 }

@@ -27,10 +27,8 @@ const LONGEST_OUT: usize = WORD * POSITIONS + LONGEST_TAPE;
 // The records of the rule, again and again.
 fn repeat(bytes: &mut [u8]) {
     let rule = RULE;
-    let mut i = 0;
-    while i < bytes.len() {
-        bytes[i] = rule[i % RECORDS];
-        i += 1;
+    for (i, b) in bytes.iter_mut().enumerate() {
+        *b = rule[i % RECORDS];
     }
 }
 

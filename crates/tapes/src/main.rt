@@ -20,10 +20,8 @@ const STRETCHES: usize = LONGEST_TAPE * (LONGEST_TAPE + 1) / 2;
 
 // 0 1 0 1 ..
 fn tape_of(tape: &mut [u8]) {
-    let mut i = 0;
-    while i < tape.len() {
-        tape[i] = expect::symbol(i);
-        i += 1;
+    for (i, s) in tape.iter_mut().enumerate() {
+        *s = expect::symbol(i);
     }
 }
 
