@@ -1,5 +1,3 @@
-#![tactic(auto)]
-
 // A case of the programs checks and tapes: a book, a tape and room are handed to an operation, and its reply with its place, its counts and
 // what stands in each buffer afterwards are compared. It prints a line: ok or WRONG, operation, reply, place.
 #![tactic(auto)]

@@ -1,5 +1,3 @@
-#![tactic(auto)]
-
 // Runs what document 01 gives of books and does not mark as proved, and compares: the limits of records and of sets, and every reply number of CHECK with
 // its place and its counts, also from BUILD, REWRITE and ACCOUNT, which hand it on. A line a case: ok or WRONG, operation, reply, place.
 #![tactic(auto)]

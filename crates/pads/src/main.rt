@@ -1,6 +1,6 @@
+// Document 01's program: tapes as lines of digits, 0 to 9 and a to v, on standard input, each rewritten and accounted for by the house book.
 #![tactic(auto)]
 
-// Document 01's program: tapes as lines of digits, 0 to 9 and a to v, on standard input, each rewritten and accounted for by the house book.
 ghost use Rattle.std.specs.Prelude.{◌≡◌, ◌≤◌, ◌<◌, length, IfOk};
 ghost use Rattle.pads.specs.Digits.{symbol_of};
 
@@ -60,6 +60,7 @@ struct Rewrote {
 }
 
 // The symbol of a character.
+#[tactic(auto, unfolding(crate::specs::Digits::symbol_of))]
 fn symbol(b: u8) -> u8
     ensures { result ≡ symbol_of b }
 {

@@ -11,6 +11,7 @@ use std::io;
 pub(crate) const LETTERS: u8 = 10;
 
 // The character of a symbol.
+#[tactic(auto, unfolding(crate::specs::Digits::digit_of))]
 fn digit(s: u8) -> u8
     ensures { result ≡ digit_of s }
 {

@@ -1,5 +1,3 @@
-#![tactic(auto)]
-
 // Runs what document 01 gives of BUILD, REWRITE, ACCOUNT and SHOW and does not mark as proved, and compares: the limits, and every reply number of
 // theirs with its place, its counts and what stands in each buffer afterwards. A line a case: ok or WRONG, operation, reply, place.
 #![tactic(auto)]

@@ -1,6 +1,6 @@
+// A text that goes to standard output when it is full: the programs print through it, so that a line costs no call of the system.
 #![tactic(auto)]
 
-// A text that goes to standard output when it is full: the programs print through it, so that a line costs no call of the system.
 ghost use Rattle.std.specs.Prelude.{◌≡◌, ◌+◌, ◌≤◌, ◌<◌, length, decimal, Ok, IfOk};
 ghost use Rattle.text.specs.Text.{holds, put_one, put_all};
 
