@@ -307,7 +307,7 @@ int main(int count, char **words)
     }
     fclose(names);
     measure_texts();
-    printf("STACK of the library that is delivered (rt staticlib deck, x86-64): bytes, on a painted stack\n");
+    printf("STACK of the library that is delivered (rt lib of crates/deck, x86-64): bytes, on a painted stack\n");
     printf("%-10s%8s%22s%8s   deepest at\n", "", "own", "arguments and return", "sum");
     int passed = 0;
     for (int i = 0; i < OPERATIONS; i++)

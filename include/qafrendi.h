@@ -1,6 +1,6 @@
 /* Qafrendi for C: context rule books over the tapes of swimming touch pads.
  *
- * Link target/staticlib/libdeck.a (`rt staticlib deck`; x86-64 Linux). The seven functions are proved: for any bytes they end, answer
+ * Link crates/deck/out/libdeck.a (`rt lib` in crates/deck; x86-64 Linux). The seven functions are proved: for any bytes they end, answer
  * what the scope document says, read and write nothing outside the buffers that they are lent, and keep nothing between calls. No
  * heap, no locks, no globals: calls on different buffers may run at once.
  *
