@@ -26,8 +26,8 @@ Determined n ps r = Determines n ps r (λ κs x y. x ≡ y)
 abbrev pub Called : (n : ℕ) (ps : List (ParamKind n)) (r : ResultKind n) → In n ps → Out n ps r → Out n ps r
 Called n ps r Q P κs a x e = Q κs a × P κs a x e
 
--- a function that is lent a slice of structs has no module `Reads`. Its clauses c are taken as the checker has them: what they ensure of a result x
--- and the last values v is just the fact P, and P allows one x and one v
+-- of a function that is lent a slice of structs. Its clauses c are taken as the checker has them: what they ensure of a result x and the last values v
+-- is just the fact P, and P allows one x and one v
 pub record Fixed {M : Type 1} (𝓤 : Ura M) (T : Ended) (c : Clauses 𝓤 T) (κs : Lfts T.signature.lifetimes) (a : Args T.signature κs)
     (g : (c κs a).ghost) : Type 2 where
   pub P : Res T.signature κs → Lasts T κs a → Type 0
