@@ -1,5 +1,5 @@
 -- Laws of a text: one byte put at its last place and before it, and all bytes of a list one after the other. Assumes nothing.
-use Rattle.std.proofs.Common.{ℕ, ◌+◌, ◌≤◌, ◌<◌, ◌≡◌, List, length, get_or, drop, add-one, drop-cons, drop_of_length-le, arith}
+use Rattle.std.proofs.Common.{ℕ, ◌+◌, ◌≤◌, ◌<◌, ◌≡◌, List, length, get_or, take, drop, zero, suc, [], ◌∷◌, refl, add-one, drop-cons, drop_of_length-le, arith}
 use Rattle.std.specs.Prelude.{set}
 use Rattle.text.specs.Text.{Text, holds, put_one, put_all}
 
@@ -26,3 +26,17 @@ module _ (t : Text) (s : List ℕ) (i : ℕ) where
   pub all_none : length s ≤ i → put_all t (drop i s) ≡ t
   unfolding put_all
   all_none h = rw drop_of_length-le
+
+-- no byte, and one byte more
+pub all_no : (t : Text) → put_all t [] ≡ t
+unfolding put_all
+all_no t = refl
+
+all_front_suc : (t : Text) (s : List ℕ) (i : ℕ) → i < length s → put_one (put_all t (take i s)) (get_or s i 0) ≡ put_all t (take (suc i) s)
+unfolding put_all
+all_front_suc t [] i h = absurd (omega arith)
+all_front_suc t (b ∷ s) zero h = refl
+all_front_suc t (b ∷ s) (suc i) h = all_front_suc (put_one t b) s i (omega arith)
+
+pub all_front : (t : Text) (s : List ℕ) (i : ℕ) → i < length s → put_one (put_all t (take i s)) (get_or s i 0) ≡ put_all t (take (i + 1) s)
+all_front t s i h = rw add-one (all_front_suc t s i h)

@@ -1,7 +1,7 @@
 // A text that goes to standard output when it is full: the programs print through it, so that a line costs no call of the system.
 #![tactic(auto)]
 
-ghost use Rattle.std.specs.Prelude.{◌≡◌, ◌+◌, ◌≤◌, ◌<◌, length, decimal, Ok, IfOk};
+ghost use Rattle.std.specs.Prelude.{◌≡◌, ℕ, ◌+◌, ◌≤◌, ◌<◌, length, take, decimal, Ok, IfOk};
 ghost use Rattle.text.specs.Text.{holds, put_one, put_all};
 
 use itoa::Buffer;
@@ -24,11 +24,12 @@ pub fn put(rt: &impl Print, text: &mut [u8], used: usize, b: u8) -> io::Result<u
     Ok(used + 1)
 }
 
-// All of `s`, from the place `used` on; the place of the next byte. It stops at the first text that cannot be written.
+// All of `s`, from the place `used` on; the place of the next byte. It stops at the first text that cannot be written: the bytes up to there stand.
 pub fn put_all(rt: &impl Print, text: &mut [u8], used: usize, s: &[u8]) -> io::Result<usize>
     requires { used < length text.old }
     ensures result_after { IfOk result (λ next. holds text.new next ≡ put_all (holds text.old used) s.now) }
     ensures upper_bound { IfOk result (λ next. next < length text.old) }
+    ensures stands { (k : ℕ) × (k ≤ length s.now) × (text.new ≡ (put_all (holds text.old used) (take k s.now)).bytes) }
     ensures room { used + length s.now < length text.old → result ≡ Ok (used + length s.now) }
 {
     let mut at = used;
@@ -38,11 +39,12 @@ pub fn put_all(rt: &impl Print, text: &mut [u8], used: usize, s: &[u8]) -> io::R
     Ok(at)
 }
 
-// The decimal digits of a number.
+// The decimal digits of a number, as `put_all` puts them.
 pub fn put_number(rt: &impl Print, text: &mut [u8], used: usize, x: u64) -> io::Result<usize>
     requires { used < length text.old }
     ensures result_after { IfOk result (λ next. holds text.new next ≡ put_all (holds text.old used) (decimal x)) }
     ensures upper_bound { IfOk result (λ next. next < length text.old) }
+    ensures stands { (k : ℕ) × (k ≤ length (decimal x)) × (text.new ≡ (put_all (holds text.old used) (take k (decimal x))).bytes) }
     ensures room { used + length (decimal x) < length text.old → result ≡ Ok (used + length (decimal x)) }
 {
     let mut digits = Buffer::new();
