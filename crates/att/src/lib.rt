@@ -297,7 +297,7 @@ fn refused(reply: u8, place: usize) -> Written
 }
 
 // All that is decided before a byte is written.
-#[derive(Drop)]
+#[derive(Clone, Copy)]
 pub struct Plan {
     pub answer: Written,
     pub known: Known,

@@ -22,7 +22,7 @@ pub enum Line {
 }
 
 // The text and a place in it, kept together.
-#[derive(Drop)]
+#[derive(Clone, Copy)]
 pub struct Lines<'a> {
     pub text: &'a [u8],
     pub at: usize,

@@ -72,7 +72,7 @@ pub const HIGH: usize = 3;
 pub const TO: usize = 4;
 
 // CHECK's answer: the reply, its place, and the counts of an accepted book.
-#[derive(Drop)]
+#[derive(Clone, Copy)]
 pub struct Checked {
     pub reply: u8,
     pub place: usize,
@@ -83,7 +83,7 @@ pub struct Checked {
 
 // The answer of the operations that write records.
 #[repr(C)]
-#[derive(Drop)]
+#[derive(Clone, Copy)]
 pub struct Written {
     // 0, or the number of the refusal.
     pub reply: u8,

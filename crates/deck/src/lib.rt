@@ -12,7 +12,7 @@ ghost use Rattle.deck.specs.Plain.{plain_checked, plain_built, plain_rewritten, 
 
 // CHECK's answer.
 #[repr(C)]
-#[derive(Drop)]
+#[derive(Clone, Copy)]
 pub struct CChecked {
     pub reply: u8, // 0, or 1 to 8: include/qafrendi.h names them
     pub place: usize, // the offset in the book at which it was refused, 0 with reply 0
@@ -23,7 +23,7 @@ pub struct CChecked {
 
 // BUILD's answer.
 #[repr(C)]
-#[derive(Drop)]
+#[derive(Clone, Copy)]
 pub struct CBuilt {
     pub reply: u8, // 0, CHECK's 1 to 8, or 11, 13, 14
     pub place: usize, // the place of CHECK's refusal, 0 with every other reply
@@ -33,7 +33,7 @@ pub struct CBuilt {
 
 // REWRITE's answer.
 #[repr(C)]
-#[derive(Drop)]
+#[derive(Clone, Copy)]
 pub struct CRewritten {
     pub reply: u8, // 0, BUILD's replies, or 9, 10, 12, 15 of the tape and its buffers
     pub place: usize, // where the book or the tape was refused, with 15 the symbols that the output needs; 0 with every other reply
@@ -43,7 +43,7 @@ pub struct CRewritten {
 
 // ACCOUNT's answer.
 #[repr(C)]
-#[derive(Drop)]
+#[derive(Clone, Copy)]
 pub struct CAccounted {
     pub reply: u8, // as REWRITE's
     pub place: usize, // as REWRITE's, with 15 the words that the account needs
@@ -52,7 +52,7 @@ pub struct CAccounted {
 
 // SHOW's answer: the part of the tape from `start` up to and not including `end`; both 0 where the line shows none.
 #[repr(C)]
-#[derive(Drop)]
+#[derive(Clone, Copy)]
 pub struct CStretch {
     pub start: usize,
     pub end: usize,

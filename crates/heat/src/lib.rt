@@ -30,7 +30,7 @@ pub struct Lane {
 
 // The answer of the whole call.
 #[repr(C)]
-#[derive(Drop)]
+#[derive(Clone, Copy)]
 pub struct Heated {
     // 0 where the lanes have their replies; else 16 or BUILD's refusal, and no lane was touched.
     pub reply: u8,
@@ -39,7 +39,7 @@ pub struct Heated {
 }
 
 // What is known before the lanes.
-#[derive(Drop)]
+#[derive(Clone, Copy)]
 pub struct Begun {
     pub heated: Heated,
     // How many lanes are to be rewritten: all of them, or none of a call that is refused.
@@ -49,7 +49,7 @@ pub struct Begun {
 }
 
 // What one lane leaves.
-#[derive(Drop)]
+#[derive(Clone, Copy)]
 pub struct Ran {
     pub lane: Lane,
     // The room that is used then: the next lane writes from there on.

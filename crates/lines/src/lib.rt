@@ -34,7 +34,7 @@ pub const LINE_DECIDING: usize = 4;
 pub const LINE_DECIDING_RULE: usize = 5;
 
 // ACCOUNT's answer.
-#[derive(Drop)]
+#[derive(Clone, Copy)]
 pub struct Accounted {
     // 0, or the refusal: here 15 alone, the account too short.
     pub reply: u8,

@@ -16,7 +16,7 @@ mod passes; // passes.rt: measuring and writing the output, position after posit
 mod words; // words.rt: the words of the rules, read from their records
 
 // REWRITE's answer.
-#[derive(Drop)]
+#[derive(Clone, Copy)]
 pub struct Rewritten {
     // 0 for accepted, else the refusal's number, 1 to 15: callers test it before they read any buffer.
     pub reply: u8,

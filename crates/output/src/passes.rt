@@ -19,7 +19,7 @@ use stretches::steps::{SLOTS, STEPS};
 use stretches::walk::{NO_RULE, taken_at};
 
 // How far the writing pass has come.
-#[derive(Drop)]
+#[derive(Clone, Copy)]
 pub struct Spot {
     // Where the next symbol is written, and its origin: at most the output's length, for which both buffers have room.
     pub at: usize,
@@ -144,7 +144,7 @@ fn write_position(
 }
 
 // What the writing pass has counted.
-#[derive(Drop)]
+#[derive(Clone, Copy)]
 pub struct Size {
     // The output's length, at most what `longest_output` says: both buffers have room for it.
     pub length: usize,

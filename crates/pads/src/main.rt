@@ -30,7 +30,7 @@ const ACCOUNT: usize = 6000;
 const LAST_LETTER: u8 = b'a' + (SYMBOLS - LETTERS - 1);
 
 // What a chunk gave from a place on: the next place, the symbols held, and whether a line ended.
-#[derive(Drop)]
+#[derive(Clone, Copy)]
 struct Fed {
     at: usize,
     n: usize,
@@ -38,14 +38,14 @@ struct Fed {
 }
 
 // What is carried from line to line and from read to read: the symbols held of the line that has begun, and the text's next place.
-#[derive(Drop)]
+#[derive(Clone, Copy)]
 struct Held {
     n: usize,
     used: usize,
 }
 
 // What is held after a read, and whether to read on.
-#[derive(Drop)]
+#[derive(Clone, Copy)]
 struct Step {
     n: usize,
     used: usize,
@@ -53,7 +53,7 @@ struct Step {
 }
 
 // After REWRITE's lines: the text's next place, and whether the tape was accepted, so that its account follows.
-#[derive(Drop)]
+#[derive(Clone, Copy)]
 struct Rewrote {
     used: usize,
     accepted: bool,

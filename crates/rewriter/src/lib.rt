@@ -22,7 +22,7 @@ pub use shown::{bounds_of, show};
 pub const LONGEST_TAPE: usize = 4096;
 
 // Whether a call is refused before anything is built, or a tape before its passes.
-#[derive(Drop)]
+#[derive(Clone, Copy)]
 pub struct Refusal {
     // 0 for no refusal, else its number, 1 to 12: REWRITE and ACCOUNT go on only after 0, and answer any other as theirs.
     pub reply: u8,

@@ -8,7 +8,7 @@ ghost use Rattle.rewriter.specs.Opening.{opened, tape_refusal};
 use super::{LONGEST_TAPE, Refusal};
 
 // What is known of a call before anything is built.
-#[derive(Drop)]
+#[derive(Clone, Copy)]
 pub struct Opened {
     // Whether it is refused, and with what.
     pub refusal: Refusal,

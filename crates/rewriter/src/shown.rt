@@ -6,7 +6,7 @@ ghost use Rattle.rewriter.specs.Show.{bounds_of, show_def};
 use lines::{LINE_END, LINE_START, LINE_WORDS};
 
 // A part of the tape.
-#[derive(Drop)]
+#[derive(Clone, Copy)]
 pub struct Bounds {
     // Where it begins, at most `end`: SHOW's part is cut there, and C adds it to its pointer.
     pub start: usize,

@@ -23,7 +23,7 @@ pub const ROW_BYTES: usize = PAIRS + PAIRS;
 pub const SET_WORDS: usize = MOST_SETS + MOST_SETS;
 
 // BUILD's answer, which its callers hand on.
-#[derive(Drop)]
+#[derive(Clone, Copy)]
 pub struct Built {
     pub reply: u8, // 0, or why the workspace holds no automata: 1 to 8 are CHECK's, 11, 13 and 14 BUILD's own
     pub place: usize, // the place of CHECK's refusal, 0 with every other reply

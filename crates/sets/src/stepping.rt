@@ -12,7 +12,7 @@ ghost use Rattle.sets.specs.Stepping.{hop_fold, is_end, step_arcs, arc_bytes, Ar
 ghost use Rattle.sets.specs.Stepping.{Stepped, Blank, joins, gather, side_arcs, close_by};
 
 // What the records after a state's own give, to the end of its rule.
-#[derive(Drop)]
+#[derive(Clone, Copy)]
 pub struct Swept {
     pub out: u64, // what they add to the step of the set: no state that the arcs do not lead the set to
     pub next: usize, // the number of the first state past them, at most 64: `focus_step` passes over the set's states below it

@@ -87,7 +87,7 @@ fn rule_hit(book: &[u8], masks: &[u64; MASKS], rules: usize, set: u64, right: u6
 }
 
 // What is taken at a free position: the longest candidate that starts there, by its lowest rule.
-#[derive(Drop)]
+#[derive(Clone, Copy)]
 pub struct Taken {
     // Where it ends, at most the tape's length: the position itself where it is empty, and where nothing is taken.
     pub end: usize,
