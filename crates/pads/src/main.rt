@@ -189,7 +189,7 @@ fn answer_lines(
     Ok(Held { n, used })
 }
 
-// One read, and the lines that end in it.
+// One read, and the lines that end in it. Where the read fails, the lines answered so far go out.
 fn read_some(
     rt: &impl Print,
     reader: &mut impl Read,
@@ -201,7 +201,13 @@ fn read_some(
     requires { (held.n ≤ length tape.old) × (held.used < length text.old) }
     ensures { IfOk result (λ r. (r.n ≤ length tape.old) × (r.used < length text.old)) }
 {
-    let got = reader.read(chunk)?;
+    let got = match reader.read(chunk) {
+        Ok(got) => got,
+        Err(e) => {
+            text::flush(rt, text, held.used)?;
+            return Err(e);
+        }
+    };
     if got == 0 {
         return Ok(Step {
             n: held.n,

@@ -1,11 +1,11 @@
 -- The contracts of `put`, `put_all`, `put_number` and `flush` determine what they give and how they leave the text, where no write fails: two answers
--- `Ok` are the same. What is written out no contract can say. Assumes nothing.
+-- `Ok` are the same. `put` determines the text in any case. What is written out no contract can say. Assumes nothing.
 use Rattle.std.proofs.Common.{ℕ, ◌≡◌, sym, ◌∙◌, Ok}
 use contract.Lifetimes.{Lfts}
 use denote.RattleType.{RattleType}
 use denote.Param.Laws.{Laws}
 use denote.Triple.Clauses.{Lasts, at_exit}
-use borrow.Fn.Kinds.{Dens, ended_of}
+use borrow.Fn.Kinds.{Dens, res_t, ended_of}
 use mir.Syntax.{Dict}
 use Rattle.std.specs.declared.io.Print.{Ghosts}
 use Rattle.text.proofs.put.Kinds as put-kinds
@@ -25,6 +25,14 @@ module _ (T : RattleType) (L : Laws T) (P : Ghosts T.Denot) (D : Dict) where
       → put_reads.Post T L P D κs a (Ok y) (at_exit (ended_of 3 (put-kinds.ps T L) (put-kinds.r T L)) κs a w)
       → (x ≡ y) × (v ≡ w)
   one_put κs a x y v w p q = let e = p.0 ∙ sym q.0 in (λ i. (e i).used, λ i. (tt, ((e i).bytes, (tt, (tt, tt)))))
+
+  -- the text's bytes, whether a write failed or not
+  pub one_put_text : (κs : Lfts 3) (a : Dens κs (put-kinds.ps T L)) (x y : (res_t (put-kinds.r T L) κs).Denot)
+      (v w : Lasts (ended_of 3 (put-kinds.ps T L) (put-kinds.r T L)) κs a)
+      → put_reads.Post T L P D κs a x (at_exit (ended_of 3 (put-kinds.ps T L) (put-kinds.r T L)) κs a v)
+      → put_reads.Post T L P D κs a y (at_exit (ended_of 3 (put-kinds.ps T L) (put-kinds.r T L)) κs a w)
+      → v ≡ w
+  one_put_text κs a x y v w p q = let e = p.1.1.0 ∙ sym q.1.1.0 in (λ i. (tt, (e i, (tt, (tt, tt)))))
 
   pub one_put_all : (κs : Lfts 4) (a : Dens κs (all_kinds.ps T L)) (x y : ℕ) (v w : Lasts (ended_of 4 (all_kinds.ps T L) (all_kinds.r T L)) κs a)
       → all-reads.Post T L P D κs a (Ok x) (at_exit (ended_of 4 (all_kinds.ps T L) (all_kinds.r T L)) κs a v)
