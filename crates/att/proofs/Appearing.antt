@@ -7,8 +7,7 @@ use native.Mathlib.Decide.{dec_lt, ℕ_discrete}
 use lib.ListN.{length, length-append}
 use Rattle.att.specs.Reading.{line_at}
 use Rattle.att.specs.Text.{Said, arc, final, Read, accepted, turn, read_from, read_text, lines_in, idx, add, add_line, names_from, names}
-use Rattle.att.specs.declared.reading.Line.{Line}
-use Rattle.att.specs.declared.reading.Line.TheVariants.{End, Final, Arc, Faulty}
+use Rattle.att.specs.Line.{Line, End, Final, Arc, Faulty}
 use Rattle.book.proofs.Idx.{idx_append, idx_same, idx_other, idx_le}
 use Rattle.att.proofs.Names.{add_in, add_new}
 use Rattle.att.proofs.Surveying.{Walk, names_snoc}

@@ -1,11 +1,11 @@
 -- Writing at the end of what is written, and into a state's record.
-use Prim.Native.Nat.{ℕ, zero, suc, ◌+◌, ◌-◌, ◌*◌, ◌≤◌}
-use mathlib.Core.Path.{◌≡◌, refl, ap, sym, ◌∙◌}
+use Prim.Native.Nat.{max, ℕ, zero, suc, ◌+◌, ◌-◌, ◌*◌, ◌≤◌}
+use mathlib.Core.Path.{◌≡◌, refl, ap, sym, subst, ◌∙◌}
 use mathlib.Core.List.{List, [], ◌∷◌, ◌++◌}
 use native.Mathlib.Numerals.{add-one}
 use native.Mathlib.Omega.{arith}
 use lib.ListN.{length, take, drop, set, replicate, length-append, length-drop, length-replicate}
-use lib.Seq.{sets, sets-eq, length-sets, take-append_seam, drop-append_seam, drop-append-add, drop-drop}
+use lib.Seq.{sets, sets-eq, take-append_seam, drop-append-add, drop-drop}
 use Rattle.att.specs.Text.{state_records}
 use Rattle.att.specs.Survey.{fresh, put, Filled}
 
@@ -73,13 +73,6 @@ five o at a b d e f =
     let w : at + 4 ≡ suc (suc (suc (suc at))) = omega arith in
     rw (x, y, z, w)
 
-pub filled_self : (out W o : List ℕ) → Filled out W o → Filled out W out
-filled_self out W o p =
-    let l = filled_length out W o p in
-    let r = p.room in
-    let d : drop (length W) out ≡ drop (length W) o = rw p.is (drop-append_seam W (drop (length W) o)) in
-    record { room = omega arith; is = rw d p.is }
-
 pub filled_trans : (out X a W o : List ℕ) → Filled out X a → Filled a W o → length W ≤ length X → Filled out X o
 filled_trans out X a W o p q h =
     let l = filled_length a W o q in
@@ -115,34 +108,33 @@ fresh_is m n e = rw (← e, add-one)
 states_none : (o : List ℕ) (part n : ℕ) → n ≡ 0 → 3 ≤ length o → Filled (sets o 0 (2 ∷ part ∷ 0 ∷ [])) (state_records part (fresh n)) o
 states_none o part n e h = rw (fresh_zero n e) (states_one o part 0 h)
 
--- all n states, where the loop began at a
-pub states_all : (out a o : List ℕ) (part m n : ℕ) → m + 1 ≡ n → Filled out (state_records part (1 ∷ replicate m 0)) a
-    → Filled a (state_records part (1 ∷ [])) o → Filled out (state_records part (fresh n)) o
-states_all out a o part m n e p q =
-    let u = records_length part (1 ∷ replicate m 0) in
-    let v = records_length part (1 ∷ []) in
-    rw (fresh_is m n e) (filled_trans out _ a _ o p q (omega arith))
+pub fresh_count : (n m : ℕ) → m ≡ max n 1 → m ≡ length (fresh n)
+unfolding fresh
+fresh_count zero m e = omega arith
+fresh_count (suc n) m e = let l = length-replicate {A = ℕ} n 0 in omega arith
 
 -- the same of what a call leaves
-pub left_first_lem : (l o : List ℕ) (part f : ℕ) → l ≡ put o 0 (2 ∷ part ∷ f ∷ []) → 3 ≤ length o → Filled l (state_records part (f ∷ [])) o
-unfolding put
-left_first_lem l o part f e h = rw e (states_one o part f h)
+pub left_first_lem : (l o : List ℕ) (part : ℕ) → l ≡ put o 0 (2 ∷ part ∷ 1 ∷ []) → 3 ≤ length o → Filled l (state_records part (fresh 1)) o
+unfolding put fresh
+left_first_lem l o part e h = rw e (states_one o part 1 h)
 
 pub left_none : (l o : List ℕ) (part n : ℕ) → l ≡ put o 0 (2 ∷ part ∷ 0 ∷ []) → n ≡ 0 → 3 ≤ length o → Filled l (state_records part (fresh n)) o
 unfolding put
 left_none l o part n e z h = rw e (states_none o part n z h)
 
-pub left_more : (l out o : List ℕ) (part m : ℕ) → l ≡ put out (3 * (m + 1)) (2 ∷ part ∷ 0 ∷ []) → Filled out (state_records part (1 ∷ replicate m 0)) o
-    → 3 * m + 6 ≤ length o → Filled l (state_records part (1 ∷ replicate (m + 1) 0)) o
+pub left_more : (l out o : List ℕ) (part m : ℕ) → l ≡ put out (3 * m) (2 ∷ part ∷ 0 ∷ []) → Filled out (state_records part (fresh m)) o → 1 ≤ m
+    → 3 * m + 3 ≤ length o → Filled l (state_records part (fresh (m + 1))) o
 unfolding put
-left_more l out o part m e p h = rw e (states_more out o part m p h)
+left_more l out o part m e p q h = by_one (m - 1) m (omega arith) e p h
+  where
+    by_one : (k n : ℕ) → k + 1 ≡ n → l ≡ put out (3 * n) (2 ∷ part ∷ 0 ∷ []) → Filled out (state_records part (fresh n)) o → 3 * n + 3 ≤ length o
+        → Filled l (state_records part (fresh (n + 1))) o
+    by_one k n i g f r =
+        rw (g, fresh_is n (n + 1) refl, ← i)
+        (states_more out o part k (subst (λ (fs : List ℕ). Filled out (state_records part fs) o) (fresh_is k n i) f) (omega arith))
 
 -- no more states are written than there may be, one at least
 pub fresh_most : (most k n : ℕ) → k ≡ length (fresh n) → 1 ≤ most → n ≤ most → k ≤ most
 unfolding fresh
 fresh_most most k zero e p h = omega arith
 fresh_most most k (suc n) e p h = let l = length-replicate {A = ℕ} n 0 in omega arith
-
-pub put_long : (o : List ℕ) (at : ℕ) (vs : List ℕ) → length (put o at vs) ≡ length o
-unfolding put
-put_long o at vs = length-sets o at vs

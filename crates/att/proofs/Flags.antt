@@ -10,10 +10,10 @@ use lib.ListN.{length, set, replicate, length-append, length-replicate}
 use borrow.Author.Tests.{eq-eqb, ne_eqb}
 use Rattle.book.specs.Format.{accept_flag, both_flags}
 use Rattle.att.specs.Text.{Said, arc, final, idx, names, state_count, arc_one, arc_count, final_for, is_final, flags_from, flags, state_records}
-use Rattle.att.specs.Text.{arc_record, arc_records}
+use Rattle.att.specs.Text.{arc_record, arc_records, written, needed}
 use Rattle.att.specs.Survey.{fresh, final_flags}
 use Rattle.book.proofs.Idx.{idx_same, idx_other}
-use Rattle.att.proofs.Filling.{fresh_more}
+use Rattle.att.proofs.Filling.{fresh_more, records_length}
 use Rattle.att.proofs.Appearing.{In, Once, one}
 
 final_snoc : (ls : List Said) (l : Said) (q : ℕ) → is_final (ls ++ (l ∷ [])) q ≡ (is_final ls q || final_for l q)
@@ -142,3 +142,7 @@ set_record part (f ∷ fs) R (suc k) v h =
 -- a state is written for each name
 pub names_few : (ls : List Said) → length (names ls) ≤ state_count ls
 names_few ls = let a = flags_long ls (names ls) in let b = fresh_more (length (names ls)) in omega arith
+
+pub written_length : (part first : ℕ) (ls : List Said) → length (written part first ls) ≡ needed ls
+unfolding written
+written_length part first ls = rw (length-append, records_length part (flags ls (names ls)), arcs_long first (names ls) ls) (omega arith)

@@ -9,8 +9,7 @@ use lib.ListN.{length, drop, length-drop}
 use borrow.Author.Tests.{ltb-true, leb-true, leb-false}
 use Rattle.att.specs.Fields.{field1, field2, field3, field_count, is_number}
 use Rattle.att.specs.Reading.{is_state, is_label, faulty, final_line, arc_line, pick_line, line_in, line_of, ended, line_at}
-use Rattle.att.specs.declared.reading.Line.{Line}
-use Rattle.att.specs.declared.reading.Line.TheVariants.{End, Final, Arc, Faulty}
+use Rattle.att.specs.Line.{Line, End, Final, Arc, Faulty}
 
 abbrev pub Good : ℕ → ℕ → Line → Type 0
 Good at n End = n ≤ at

@@ -23,7 +23,7 @@ use Rattle.book.proofs.Claims.{some_rule_lem}
 use Rattle.att.specs.Text.{Said, arc, final, read_text, lines_in, names, arc_count, flags, written, state_count, needed, import_def}
 use Rattle.att.specs.Words.{text_words}
 use Rattle.att.specs.Placed.{part_arcs, part_states, latest, with_part, mine, leaves, Holds, import_bytes}
-use Rattle.att.proofs.Planning.{written_length}
+use Rattle.att.proofs.Flags.{written_length}
 use Rattle.att.proofs.Symbols.{text_symbols}
 use Rattle.att.proofs.Passing.{part_state, part_long, Fits, read_part}
 use Rattle.att.proofs.Taking.{Taken, taken}

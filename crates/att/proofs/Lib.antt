@@ -1,4 +1,5 @@
 -- Laws of a line: its fields, their numbers, what is read of it.
+pub mod Results
 pub mod Parting
 pub mod Rows
 pub mod Good
@@ -9,11 +10,11 @@ pub mod Surveying
 pub mod Filling
 pub mod Appearing
 pub mod Flags
-pub mod Putting
 -- Laws of the answer.
 pub mod Answers
-pub mod Planning
 pub mod Taking
+pub mod Planning
+pub mod Putting
 -- The words, and the part in a book.
 pub mod Words
 pub mod Passing

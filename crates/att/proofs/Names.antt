@@ -1,32 +1,21 @@
--- Laws of the numbers of states by first appearance, and of the list that the first pass keeps.
-use Prim.Native.Nat.{ℕ, ◌+◌, ◌≤◌, ◌<◌}
-use mathlib.Core.Path.{◌≡◌, refl, ap, sym, ◌∙◌}
+-- Laws of the numbers of states by first appearance, and of the states that the first pass knows.
+use Prim.Native.Nat.{ℕ, suc, ◌+◌, ◌≤◌, ◌<◌}
+use Rattle.std.specs.Prelude.{Option, Some, None}
+use mathlib.Core.Path.{◌≡◌, refl, sym}
 use mathlib.Core.List.{List, [], ◌∷◌, ◌++◌}
+use mathlib.Core.Bool.{Bool, true, false, cond}
 use native.Mathlib.Numerals.{add-one}
 use native.Mathlib.Omega.{arith}
 use native.Mathlib.Decide.{dec_lt}
-use lib.ListN.{length, take, drop, get_or, set, length-append, length-set}
+use lib.ListN.{length, take, set, length-append}
 use lib.Seq.{take-suc-set}
+use lib.Dec.{eqb, ltb}
+use Rattle.std.specs.List.{position_or_len}
+use Rattle.std.specs.Option.{is_some}
+use Rattle.std.proofs.lemmas.List.Recursion.{is_position_or_len}
 use borrow.Author.Tests.{lt-ltb, le-ltb}
-use Rattle.book.specs.Format.{most_states}
 use Rattle.att.specs.Text.{idx, add}
-use Rattle.att.specs.Survey.{Lists, Entered}
-use Rattle.att.specs.declared.Known.{Known}
-use Rattle.book.proofs.Idx.{search_stop, search_on, search_end}
-
--- the search
-module _ (list : List ℕ) (n k x : ℕ) (room : n ≤ length list) (all : k + idx (drop k (take n list)) x ≡ idx (take n list) x) where
-  pub find_met : k < n → get_or list k 0 ≡ x → k ≡ idx (take n list) x
-  find_met h e = let z = search_stop list n x room k h e in omega arith
-
-  pub find_more : k < n → (get_or list k 0 ≡ x → ⊥) → k + 1 + idx (drop (k + 1) (take n list)) x ≡ idx (take n list) x
-  find_more h e = let z = search_on list n x room k h e in omega arith
-
-  pub find_end : k ≤ n → n ≤ k → k ≡ idx (take n list) x
-  find_end h m = let z = search_end list n x room k (omega arith) in omega arith
-
-pub find_start : (L : List ℕ) (x : ℕ) → 0 + idx (drop 0 L) x ≡ idx L x
-find_start L x = omega arith
+use Rattle.att.specs.Survey.{number_in}
 
 -- one state more
 pub add_in : (S : List ℕ) (x : ℕ) → idx S x < length S → add S x ≡ S
@@ -37,73 +26,62 @@ pub add_new : (S : List ℕ) (x : ℕ) → length S ≤ idx S x → add S x ≡ 
 unfolding add
 add_new S x h = rw (add, le-ltb _ _ h)
 
-add_longer : (S : List ℕ) (x : ℕ) → length S ≤ length (add S x)
+pub add_longer : (S : List ℕ) (x : ℕ) → length S ≤ length (add S x)
 add_longer S x = by_case (dec_lt (idx S x) (length S))
   where
     by_case : Dec (idx S x < length S) → length S ≤ length (add S x)
     by_case (yes h) = rw (add_in S x h) (omega arith)
     by_case (no h) = let k : length S ≤ idx S x = omega (arith, h) in rw (add_new S x k) (simp length-append (omega arith))
 
-module _ (known : Known) (x : ℕ) where
-  pub entered_many : most_states < known.count → known.count ≤ (most_states + 1) → Entered known known x
-  entered_many h r = record { room = r; lists = λ S p. more S p (dec_lt most_states (length S)) }
-    where
-      more : (S : List ℕ) → Lists known S → Dec (most_states < length S) → Lists known (add S x)
-      more S p (no m) = let w = p.few (omega (arith, m)) in let z : ⊥ = omega (arith, m) in absurd z
-      more S p (yes m) =
-          let g = add_longer S x in
-          record {
-            few = λ f. let z : ⊥ = omega arith in absurd z;
-            same = λ f. let z : ⊥ = omega arith in absurd z;
-            many = λ f. p.many m;
-            long = p.long;
-          }
+-- the number of a state that is known, and of one that is not
+pub number_of_in : (S : List ℕ) (x : ℕ) → idx S x < length S → number_in S x ≡ Some (idx S x)
+unfolding number_in
+number_of_in S x h = rw (number_in, lt-ltb _ _ h)
 
-  -- with at most most_states of them the list says the states
-  few_states : (S : List ℕ) → Lists known S → known.count ≤ most_states → length S ≤ most_states
-  few_states S p h = by_case (dec_lt most_states (length S))
-    where
-      by_case : Dec (most_states < length S) → length S ≤ most_states
-      by_case (yes m) = let w = p.many m in let z : ⊥ = omega arith in absurd z
-      by_case (no m) = omega (arith, m)
+pub number_of_new : (S : List ℕ) (x : ℕ) → length S ≤ idx S x → number_in S x ≡ None
+unfolding number_in
+number_of_new S x h = rw (number_in, le-ltb _ _ h)
 
-  says : (S : List ℕ) → Lists known S → known.count ≤ most_states → take known.count known.list ≡ S
-  says S p h = let m = few_states S p h in rw (p.few m) (p.same m)
+pub number_some : (S : List ℕ) (x k : ℕ) → number_in S x ≡ Some k → (k ≡ idx S x) × (k < length S)
+number_some S x k e = by_case (dec_lt (idx S x) (length S))
+  where
+    by_case : Dec (idx S x < length S) → (k ≡ idx S x) × (k < length S)
+    by_case (yes h) = let q : k ≡ idx S x = let n = number_of_in S x h in cc in (q, omega arith)
+    by_case (no h) = let n = number_of_new S x (omega (arith, h)) in let z : ◌≡◌ {A = ℕ} 0 1 = cc in let w : ⊥ = omega arith in absurd w
 
-  module _ (h : known.count ≤ most_states) (k : ℕ) (e : k ≡ idx (take known.count known.list) x) where
-    found : (S : List ℕ) → Lists known S → k ≡ idx S x
-    found S p = e ∙ ap (λ (L : List ℕ). idx L x) (says S p h)
+pub number_none : (S : List ℕ) (x : ℕ) → number_in S x ≡ None → length S ≤ idx S x
+number_none S x e = by_case (dec_lt (idx S x) (length S))
+  where
+    by_case : Dec (idx S x < length S) → length S ≤ idx S x
+    by_case (yes h) = let n = number_of_in S x h in let z : ◌≡◌ {A = ℕ} 0 1 = cc in let w : ⊥ = omega arith in absurd w
+    by_case (no h) = omega (arith, h)
 
-    pub entered_in : k < known.count → Entered known known x
-    entered_in l = record { room = omega arith; lists = λ S p. let q = found S p in let w = p.few (few_states S p h) in rw (add_in S x (omega arith)) p }
+-- the search's answer as a test
+pub number_is_some : (S : List ℕ) (x : ℕ) (r : Option ℕ) → r ≡ number_in S x → true ≡ is_some r → idx S x < length S
+number_is_some S x (Some k) q e = let h = number_some S x k (sym q) in omega arith
+number_is_some S x None q e = cc
 
-    pub entered_full : known.count ≡ most_states → known.count ≤ k → Entered known (record { list = known.list; count = (most_states + 1) }) x
-    entered_full f l = record { room = omega arith; lists = λ S p. more S p (found S p) (p.few (few_states S p h)) }
-      where
-        more : (S : List ℕ) → Lists known S → k ≡ idx S x → known.count ≡ length S
-            → Lists (record { list = known.list; count = (most_states + 1) }) (add S x)
-        more S p q w =
-            let n : length (add S x) ≡ length S + 1 = rw (add_new S x (omega arith)) (simp length-append) in
-            record {
-              few = λ g. let z : ⊥ = omega arith in absurd z;
-              same = λ g. let z : ⊥ = omega arith in absurd z;
-              many = λ g. refl;
-              long = p.long;
-            }
+pub number_is_none : (S : List ℕ) (x : ℕ) (r : Option ℕ) → r ≡ number_in S x → false ≡ is_some r → length S ≤ idx S x
+number_is_none S x (Some k) q e = cc
+number_is_none S x None q e = number_none S x (sym q)
 
-    pub entered_new : known.count < most_states → known.count ≤ k → Entered known
-        (record { list = set known.list known.count x; count = known.count + 1 }) x
-    entered_new f l = record { room = omega arith; lists = λ S p. more S p (found S p) (p.few (few_states S p h)) (says S p h) }
-      where
-        more : (S : List ℕ) → Lists known S → k ≡ idx S x → known.count ≡ length S → take known.count known.list ≡ S
-            → Lists (record { list = set known.list known.count x; count = known.count + 1 }) (add S x)
-        more S p q w t =
-            let a = add_new S x (omega arith) in
-            let n : length (add S x) ≡ known.count + 1 = rw (a, w) (simp length-append) in
-            let i : known.count < length known.list = omega (arith, p.long) in
-            record {
-              few = λ g. sym n;
-              same = λ g. rw (n, a, add-one) (take-suc-set known.list known.count x i ∙ ap (λ (L : List ℕ). L ++ (x ∷ [])) t);
-              many = λ g. let z : ⊥ = omega arith in absurd z;
-              long = length-set known.list known.count x ∙ p.long;
-            }
+-- a state more in the list
+pub add_length : (S : List ℕ) (x : ℕ) → length S ≤ idx S x → length (add S x) ≡ length S + 1
+add_length S x h = rw (add_new S x h) (simp length-append)
+
+pub add_set : (list : List ℕ) (n x : ℕ) → n < length list → length (take n list) ≤ idx (take n list) x → take (n + 1) (set list n x) ≡ add (take n list) x
+add_set list n x h k = rw (add-one, add_new (take n list) x k) (take-suc-set list n x h)
+
+-- as the library finds it
+idx_position : (x : ℕ) (S : List ℕ) → idx S x ≡ position_or_len (λ y. eqb y x) S
+unfolding idx
+idx_position x = is_position_or_len (λ S. idx S x) (λ y. eqb y x) refl (λ y S. by_test (eqb y x) y S)
+  where
+    by_test : (t : Bool) (y : ℕ) (S : List ℕ) → ◌≡◌ {A = ℕ} (elim t [ true ↦ 0 | false ↦ suc (idx S x) ]) (cond t 0 (1 + idx S x))
+    by_test true y S = refl
+    by_test false y S = omega arith
+
+pub number_found : (S : List ℕ) (x : ℕ) (r : Option ℕ)
+    → r ≡ cond (ltb (position_or_len (λ y. eqb y x) S) (length S)) (Some (position_or_len (λ y. eqb y x) S)) None → r ≡ number_in S x
+unfolding number_in
+number_found S x r e = rw (number_in, idx_position x S) e

@@ -5,12 +5,22 @@ use mathlib.Core.List.{List, [], ◌∷◌}
 use mathlib.Core.Bool.{Bool, true, false, ◌&&◌, cond}
 use native.Mathlib.Numerals.{add-one}
 use native.Mathlib.Omega.{arith}
-use lib.Dec.{eqb, leb}
+use lib.Dec.{eqb, leb, ltb}
 use native.Mathlib.Decide.{dec_lt}
-use lib.ListN.{length, take, drop, get_or, length-drop, drop_of_length-le}
+use lib.ListN.{length, take, drop, get_or, length-drop}
 use lib.Seq.{drop-cons, drop-length, take_all}
-use borrow.Author.Tests.{eq-eqb, ne_eqb, le-leb, lt-leb, leb-true}
-use Rattle.att.specs.Fields.{tab, digit_zero, digit_nine, most_state, before, past, count, field_count, digits, is_number, value_from, value}
+use borrow.Author.Tests.{eq-eqb, ne_eqb, le-leb, lt-leb, leb-true, lt-ltb, le-ltb}
+use Rattle.std.specs.Prelude.{Option, Some, None, Ok, Err, count_by}
+use Rattle.std.specs.List.{position_or_len, list_all}
+use Rattle.std.specs.Option.{unwrap_or, ok_or, SomeIff, MatchOption}
+use Rattle.std.specs.List.{slice_range}
+use Rattle.std.proofs.Common.{◌⊎◌, ⊎_elim, Bor}
+use Rattle.att.specs.Results.{number_read}
+use Rattle.att.specs.declared.fields.Unread.{Unread}
+use Rattle.att.specs.declared.fields.Unread.TheVariants.{NoNumber, TooHigh}
+use Rattle.std.proofs.lemmas.List.Recursion.{is_position_or_len, is_count_by}
+use Rattle.book.proofs.Laws.{and_right}
+use Rattle.att.specs.Fields.{tab, digit, digit_zero, most_state, before, past, count, field_count, digits, is_number, value_from, value}
 use Rattle.att.specs.Numbers.{too_high, no_number, capped, read_number}
 
 -- the rest from i on, and one byte less
@@ -20,26 +30,6 @@ drop_one s i h = rw (add-one, drop-cons s i 0)
 pub drop_none : (s : List ℕ) (i : ℕ) → i ≤ length s → length s ≤ i → drop i s ≡ []
 drop_none s i h k = let e : i ≡ length s = omega arith in rw (e, drop-length s)
 
-before_met : (b x : ℕ) (s : List ℕ) → x ≡ b → before b (x ∷ s) ≡ []
-unfolding before
-before_met b x s h = rw (before, eq-eqb x b h)
-
-before_not : (b x : ℕ) (s : List ℕ) → (x ≡ b → ⊥) → before b (x ∷ s) ≡ x ∷ before b s
-unfolding before
-before_not b x s h = rw (before, ne_eqb x b h)
-
-module _ (b : ℕ) (s : List ℕ) (i : ℕ) (all : i + length (before b (drop i s)) ≡ length (before b s)) where
-  pub span_met : i < length s → get_or s i 0 ≡ b → i ≡ length (before b s)
-  span_met h e = let z : length (before b (drop i s)) ≡ 0 = rw (drop_one s i h, before_met b (get_or s i 0) (drop (i + 1) s) e) in omega arith
-
-  pub span_more : i < length s → (get_or s i 0 ≡ b → ⊥) → i + 1 + length (before b (drop (i + 1) s)) ≡ length (before b s)
-  span_more h e = let z : length (before b (drop i s)) ≡ suc (length (before b (drop (i + 1) s))) =
-      rw (drop_one s i h, before_not b (get_or s i 0) (drop (i + 1) s) e) in omega arith
-
-  pub span_end : i ≤ length s → length s ≤ i → i ≡ length (before b s)
-  unfolding before
-  span_end h k = let z : length (before b (drop i s)) ≡ 0 = rw (drop_none s i h k) in omega arith
-
 before_short_by : (t : Bool) (x : ℕ) (m s : List ℕ) → length m ≤ length s → length {A = ℕ} (elim t [ true ↦ [] | false ↦ x ∷ m ]) ≤ suc (length s)
 before_short_by true x m s h = omega arith
 before_short_by false x m s h = omega arith
@@ -48,6 +38,25 @@ pub before_short : (b : ℕ) (s : List ℕ) → length (before b s) ≤ length s
 unfolding before
 before_short b [] = omega arith
 before_short b (x ∷ s) = before_short_by (eqb x b) x (before b s) s (before_short b s)
+
+-- how many bytes stand before the first b, as the library finds it
+before_first_len : (b : ℕ) (s : List ℕ) → length (before b s) ≡ position_or_len (λ x. eqb x b) s
+unfolding before
+before_first_len b = is_position_or_len (λ s. length (before b s)) (λ x. eqb x b) refl (λ x s. by_test (eqb x b) x s)
+  where
+    by_test : (t : Bool) (x : ℕ) (s : List ℕ) → length {A = ℕ} (elim t [ true ↦ [] | false ↦ x ∷ before b s ]) ≡ cond t 0 (1 + length (before b s))
+    by_test true x s = refl
+    by_test false x s = omega arith
+
+pub span_is : (b : ℕ) (s : List ℕ) (r : Option ℕ)
+    → r ≡ cond (ltb (position_or_len (λ x. eqb x b) s) (length s)) (Some (position_or_len (λ x. eqb x b) s)) None
+    → unwrap_or r (length s) ≡ length (before b s)
+span_is b s r e = rw (e, ← before_first_len b s) (by_case (dec_lt (length (before b s)) (length s)))
+  where
+    by_case : Dec (length (before b s) < length s)
+        → unwrap_or (cond (ltb (length (before b s)) (length s)) (Some (length (before b s))) None) (length s) ≡ length (before b s)
+    by_case (yes h) = rw (lt-ltb _ _ h)
+    by_case (no h) = let k : length s ≤ length (before b s) = omega (arith, h) in rw (le-ltb _ _ k) (omega (arith, before_short b s))
 
 -- the front as a part of the list, and what is past it
 before_take_by : (t : Bool) (x : ℕ) (m s : List ℕ) → take (length m) s ≡ m
@@ -82,22 +91,17 @@ past_none b [] h = refl
 past_none b (x ∷ s) h = past_none_by (eqb x b) x (before b s) (past b s) s (past_none b s) h
 
 -- counting tabs
-module _ (l : List ℕ) (n i : ℕ) (all : n + count tab (drop i l) ≡ field_count l) where
-  pub count_met : i < length l → get_or l i 0 ≡ tab → (m : ℕ) → m ≡ n + 1 → m + count tab (drop (i + 1) l) ≡ field_count l
-  unfolding count
-  count_met h e m q = let z : count tab (drop i l) ≡ 1 + count tab (drop (i + 1) l) = rw (drop_one l i h, count, eq-eqb (get_or l i 0) tab e) in omega arith
+count_is : (b : ℕ) (s : List ℕ) → count b s ≡ count_by (λ x. eqb x b) s
+unfolding count
+count_is b = is_count_by (count b) (λ x. eqb x b) refl (λ x s. by_test (eqb x b) (count b s))
+  where
+    by_test : (t : Bool) (n : ℕ) → cond t 1 0 + n ≡ cond t (1 + n) n
+    by_test true n = refl
+    by_test false n = omega arith
 
-  pub count_not : i < length l → (get_or l i 0 ≡ tab → ⊥) → (m : ℕ) → m ≡ n → m + count tab (drop (i + 1) l) ≡ field_count l
-  unfolding count
-  count_not h e m q = let z : count tab (drop i l) ≡ 0 + count tab (drop (i + 1) l) = rw (drop_one l i h, count, ne_eqb (get_or l i 0) tab e) in omega arith
-
-  pub count_end : i ≤ length l → length l ≤ i → n ≡ field_count l
-  unfolding count
-  count_end h k = let z : count tab (drop i l) ≡ 0 = rw (drop_none l i h k) in omega arith
-
-pub count_start : (l : List ℕ) → 1 + count tab (drop 0 l) ≡ field_count l
+pub field_count_is : (l : List ℕ) (n : ℕ) → n ≡ count_by (λ x. eqb x tab) l → 1 + n ≡ field_count l
 unfolding field_count
-count_start l = refl
+field_count_is l n e = rw (e, count_is tab l)
 
 -- numbers
 value_grows : (f : List ℕ) (v : ℕ) → v ≤ value_from v f
@@ -139,61 +143,95 @@ capped_in w f = by_case (dec_lt most_state w)
         capped_big _ (omega arith) ∙ sym (capped_big _ (omega arith))
     by_case (no k) = let h : w ≤ most_state = omega (arith, k) in ap (λ (x : ℕ). capped (value_from x f)) (capped_small w h)
 
+digits_all : (f : List ℕ) → digits f ≡ list_all digit f
+unfolding digits
+digits_all [] = refl
+digits_all (x ∷ f) = ap (λ (t : Bool). digit x && t) (digits_all f)
+
+-- a number that fits is read as it is
+pub checked_read : (o : Option ℕ) (w : ℕ) → SomeIff o (w < 65536) w → number_read (ok_or o TooHigh) ≡ capped w
+checked_read (Some v) w h = h.1 ∙ sym (capped_small w (omega arith))
+checked_read None w h = sym (capped_big w (omega arith))
+
+pub checked_ok : (o : Option ℕ) (P : Type 0) (w v : ℕ) → SomeIff o P w → Ok v ≡ ok_or o TooHigh → v ≡ w
+checked_ok (Some x) P w v h e = let q : v ≡ x = cc in q ∙ h.1
+checked_ok None P w v h e = cc
+
+pub too_high_read : (e : Unread) (n : ℕ) → e ≡ TooHigh → number_read (Err e) ≡ n → n ≡ too_high
+too_high_read e n i q = sym q ∙ rw i
+
+pub no_number_read : (e : Unread) (n : ℕ) → e ≡ NoNumber → number_read (Err e) ≡ n → n ≡ no_number
+no_number_read e n i q = sym q ∙ rw i
+
+-- what is refused is too high
+pub refused_high : (e : Unread) (w : ℕ) → number_read (Err e) ≡ capped w → (most_state < w) × (most_state < number_read (Err e))
+refused_high e w q = (by_case (dec_lt most_state w), above e)
+  where
+    above : (u : Unread) → most_state < number_read (Err u)
+    above NoNumber = omega arith
+    above TooHigh = omega arith
+
+    by_case : Dec (most_state < w) → most_state < w
+    by_case (yes h) = h
+    by_case (no h) = let k : w ≤ most_state = omega (arith, h) in let c = capped_small w k in let a = above e in absurd (omega arith)
+
 -- how far the reading of a number has come
 pub record Digits (f : List ℕ) (v i : ℕ) : Type 0 where
   pub some : length f ≡ 0 → ⊥
+  pub whole : digits f ≡ true
   pub within : i ≤ length f
   pub top : v ≤ too_high
-  pub good : digits (drop i f) ≡ digits f
+  pub good : digits (drop i f) ≡ true
   pub worth : capped (value_from v (drop i f)) ≡ capped (value f)
 
-pub digits_start : (f : List ℕ) → (length f ≡ 0 → ⊥) → Digits f 0 0
+pub digits_start : (f : List ℕ) → (length f ≡ 0 → ⊥) → list_all digit f ≡ true → Digits f 0 0
 unfolding value
-digits_start f h = record { some = h; within = omega arith; top = omega arith; good = refl; worth = refl }
+digits_start f h e = record { some = h; whole = digits_all f ∙ e; within = omega arith; top = omega arith; good = digits_all f ∙ e; worth = refl }
 
 pub number_none : (f : List ℕ) → length f ≡ 0 → no_number ≡ read_number f
 unfolding read_number is_number
 number_none f h = simp (eq-eqb _ _ h)
 
-no_digit : (x : ℕ) (f : List ℕ) → (leb digit_zero x && leb x digit_nine) ≡ false → digits (x ∷ f) ≡ false
-unfolding digits
-no_digit x f e = rw (digits, e)
-
-a_digit : (x : ℕ) (f : List ℕ) → digit_zero ≤ x → x ≤ digit_nine → digits (x ∷ f) ≡ digits f
-unfolding digits
-a_digit x f h k = simp (le-leb digit_zero x h, le-leb x digit_nine k)
+pub number_bad : (f : List ℕ) → (length f ≡ 0 → ⊥) → list_all digit f ≡ false → no_number ≡ read_number f
+unfolding read_number is_number
+number_bad f h e = simp (ne_eqb _ _ h, digits_all f ∙ e)
 
 module _ (f : List ℕ) (v i : ℕ) (p : Digits f v i) where
-  number_bad : digits (drop i f) ≡ false → no_number ≡ read_number f
-  unfolding read_number is_number
-  number_bad e = simp (ne_eqb _ _ p.some, sym p.good ∙ e)
+  digits_here : i < length f → (digit (get_or f i 0) && digits (drop (i + 1) f)) ≡ true
+  unfolding digits
+  digits_here h = ap digits (sym (drop_one f i h)) ∙ p.good
 
-  pub number_low : i < length f → get_or f i 0 < digit_zero → no_number ≡ read_number f
-  number_low h k = number_bad (rw (drop_one f i h) (no_digit _ _ (simp (lt-leb digit_zero (get_or f i 0) k))))
-
-  pub number_high : i < length f → digit_nine < get_or f i 0 → no_number ≡ read_number f
-  number_high h k = number_bad (rw (drop_one f i h) (no_digit _ _ (simp (le-leb digit_zero (get_or f i 0) (omega arith), lt-leb (get_or f i 0) digit_nine k))))
-
-  pub digits_more : i < length f → digit_zero ≤ get_or f i 0 → get_or f i 0 ≤ digit_nine → (w : ℕ) → w ≡ capped (v * 10 + (get_or f i 0 - digit_zero))
-      → Digits f w (i + 1)
+  pub digits_more : i < length f → (w : ℕ) → w ≡ capped (v * 10 + (get_or f i 0 - digit_zero)) → Digits f w (i + 1)
   unfolding value_from
-  digits_more h k m w e =
+  digits_more h w e =
       record {
         some = p.some;
+        whole = p.whole;
         within = omega arith;
         top = rw e (capped_top _);
-        good = sym (a_digit _ _ k m) ∙ ap digits (sym (drop_one f i h)) ∙ p.good;
+        good = and_right (digit (get_or f i 0)) _ (digits_here h);
         worth = rw e (capped_in (v * 10 + (get_or f i 0 - digit_zero)) (drop (i + 1) f)) ∙ ap (λ (l : List ℕ). capped (value_from v l)) (sym (drop_one f i h))
             ∙ p.worth;
       }
 
+  number_is : read_number f ≡ capped (value f)
+  unfolding read_number is_number
+  number_is = simp (ne_eqb _ _ p.some, p.whole)
+
+  -- at the end the number is read; past the highest it is too high, whatever digits follow
   pub number_end : length f ≤ i → v ≡ read_number f
-  unfolding read_number is_number value_from digits
+  unfolding value_from
   number_end h =
-      let n = drop_none f i p.within h in
-      let d : digits f ≡ true = sym p.good ∙ ap digits n in
-      let w : capped v ≡ capped (value f) = ap (λ (l : List ℕ). capped (value_from v l)) (sym n) ∙ p.worth in
-      sym (capped_fix v p.top) ∙ w ∙ simp (ne_eqb _ _ p.some, d)
+      let w : capped v ≡ capped (value f) = ap (λ (l : List ℕ). capped (value_from v l)) (sym (drop_none f i p.within h)) ∙ p.worth in
+      sym (capped_fix v p.top) ∙ w ∙ sym number_is
+
+  pub number_high : most_state < v → v ≡ read_number f
+  number_high h =
+      let g = value_grows (drop i f) v in
+      let w : too_high ≡ capped (value f) = sym (capped_big _ (omega arith)) ∙ p.worth in
+      let t = p.top in
+      let e : v ≡ too_high = omega arith in
+      e ∙ w ∙ sym number_is
 
 -- the front and the rest as the code cuts them
 pub front_length : (b : ℕ) (s : List ℕ) (e : ℕ) → e ≡ length (before b s) → e ≡ length (take e s)
@@ -202,13 +240,12 @@ front_length b s e q = rw q (sym (ap length (before_take b s)))
 pub front_is : (b : ℕ) (s : List ℕ) (e : ℕ) → e ≡ length (before b s) → take e s ≡ before b s
 front_is b s e q = rw q (before_take b s)
 
-pub rest_is : (b : ℕ) (s : List ℕ) (e : ℕ) → e ≡ length (before b s) → take (length s - (e + 1)) (drop (e + 1) s) ≡ past b s
-rest_is b s e q =
-    let h : length (drop (e + 1) s) ≤ length s - (e + 1) = simp length-drop (omega arith) in
+pub rest_cut : (b : ℕ) (s : List ℕ) (e : ℕ) → e ≡ length (before b s) → (r : Option (Bor (List ℕ)))
+    → MatchOption r ((length s < e + 1) ⊎ (length s < length s))
+    (λ x. (e + 1 ≤ length s) × (length s ≤ length s) × (x.now ≡ slice_range s (e + 1) (length s)) × (length x.now + (e + 1) ≡ length s))
+    → (d : Bor (List ℕ)) → d.now ≡ [] → (unwrap_or r d).now ≡ past b s
+rest_cut b s e q (Some x) h d z =
+    let k : length (drop (e + 1) s) ≤ length s - (e + 1) = simp length-drop (omega arith) in
     let m : drop (e + 1) s ≡ past b s = rw (add-one, q) (past_drop b s) in
-    take_all _ _ h ∙ m
-
-pub rest_none : (b : ℕ) (s : List ℕ) (e : ℕ) → e ≡ length (before b s) → length s ≤ e → take (length s - e) (drop e s) ≡ past b s
-rest_none b s e q h =
-    let k : length (drop e s) ≤ length s - e = simp length-drop (omega arith) in
-    take_all _ _ k ∙ drop_of_length-le s h ∙ sym (past_none b s (omega arith))
+    h.2 ∙ take_all _ _ k ∙ m
+rest_cut b s e q None h d z = z ∙ sym (past_none b s (⊎_elim (λ k. omega arith) (λ k. omega arith) h))

@@ -1,17 +1,21 @@
 -- How far the second pass has come.
 use Prim.Native.Nat.{ℕ, ◌+◌, ◌*◌, ◌≤◌, ◌<◌}
+use Rattle.std.specs.Prelude.{Option, Result, Ok, Err}
+use Rattle.book.specs.declared.replies.Refusal.{Refusal}
+use Rattle.std.specs.Result.{is_ok}
+use mathlib.Core.Bool.{true}
 use mathlib.Core.Path.{◌≡◌, refl, ap, sym, ◌∙◌, subst}
 use mathlib.Core.List.{List, [], ◌∷◌, ◌++◌, append_assoc, append-nil}
-use mathlib.Core.Bool.{true, false, false≢true}
 use native.Mathlib.Omega.{arith}
-use lib.ListN.{length, take, drop, set, length-append, take-append-drop}
+use lib.ListN.{length, drop, set, length-append, take-append-drop}
 use Rattle.att.specs.Reading.{line_at}
 use Rattle.att.specs.Text.{Said, arc, final, read_text, lines_in, idx, names, arc_count, flags, state_records, arc_records, written}
-use Rattle.att.specs.Survey.{place_after, fresh, put, Filled, Ready, final_flags, Listed, LineFits, AfterLine, line_def, after_states}
-use Rattle.att.specs.declared.reading.Line.{Line}
-use Rattle.att.specs.declared.Writing.{Writing}
-use Rattle.att.specs.declared.reading.Line.TheVariants.{End, Final, Arc, Faulty}
-use Rattle.att.proofs.Surveying.{Walk, walk_start, walk_end, walk_refused, walk_final, walk_arc, arcs_snoc, final_on, arc_on, ahead}
+use Rattle.att.specs.Survey.{fresh, put, Filled, final_flags, Listed, LineFits, AfterLine, line_leaves, line_def, after_states}
+use Rattle.att.specs.Results.{line_saying, line_advanced}
+use Rattle.att.specs.declared.reading.Line as read
+use Rattle.att.proofs.Planning.{Ready}
+use Rattle.att.specs.Line.{End, Final, Arc, Faulty}
+use Rattle.att.proofs.Surveying.{Walk, walk_start, walk_end, walk_refused, walk_final, walk_arc, arcs_snoc}
 use Rattle.att.proofs.Filling.{filled_length, fill_put, records_length, fresh_length, fresh_more}
 use Rattle.att.proofs.Appearing.{Longer, walk_longer, In, final_in, source_in, target_in, once_names}
 use Rattle.att.proofs.Flags.{flags_arc, flags_final, flags_none, flags_long, arcs_more, arcs_long, arcs_append, set_record}
@@ -34,40 +38,35 @@ pub record Mid (out o s : List ℕ) (part first at used : ℕ) : Type 0 where
   pub filled : Filled out (front part first (names (lines_in (read_text s))) done) o
   pub upto : used ≡ 3 * length (fresh (length (names (lines_in (read_text s))))) + 5 * arc_count done
 
--- how far it has come with the place at `at`: on its way, or it is over
-pub record Under (out o s : List ℕ) (part first at : ℕ) (w : Writing) : Type 0 where
-  pub mid : w.going ≡ true → Mid out o s part first at w.used
-  pub over : w.going ≡ false → Filled out (written part first (lines_in (read_text s))) o
-
-module _ (o s list : List ℕ) (n part first : ℕ) (r : Ready o s list n part first) where
+module _ (o s L : List ℕ) (part first : ℕ) (r : Ready o s L part first) where
   abbrev whole : List Said
   whole = lines_in (read_text s)
 
   abbrev S : List ℕ
   S = names whole
 
-  pub mid_start : (used : ℕ) → used ≡ 3 * length (fresh n) → Mid o o s part first 0 used
+  pub mid_start : (used : ℕ) → used ≡ 3 * length (fresh (length L)) → Mid o o s part first 0 used
   unfolding arc_records arc_count
   mid_start used e =
-      let w : length (flags [] S) ≡ length (fresh n) = flags_long [] S ∙ ap (λ (k : ℕ). length (fresh k)) (sym r.clear.states) in
-      let v : length (flags whole S) ≡ length (fresh n) = flags_long whole S ∙ ap (λ (k : ℕ). length (fresh k)) (sym r.clear.states) in
+      let w : length (flags [] S) ≡ length (fresh (length L)) = flags_long [] S ∙ ap (λ (k : ℕ). length (fresh k)) (sym (ap length r.clear.listed)) in
+      let v : length (flags whole S) ≡ length (fresh (length L)) = flags_long whole S ∙ ap (λ (k : ℕ). length (fresh k)) (sym (ap length r.clear.listed)) in
       let k = r.clear.enough in
-      let f : front part first S [] ≡ state_records part (fresh n) = append-nil _
-      ∙ ap (state_records part) (flags_none S ∙ ap fresh (sym r.clear.states)) in
-      let l = records_length part (fresh n) in
+      let f : front part first S [] ≡ state_records part (fresh (length L)) = append-nil _
+      ∙ ap (state_records part) (flags_none S ∙ ap fresh (sym (ap length r.clear.listed))) in
+      let l = records_length part (fresh (length L)) in
       record {
         done = [];
         walk = walk_start s;
         filled = rw f (record {
           room = omega arith;
-          is = sym (take-append-drop (length (state_records part (fresh n))) o)
-              ∙ rw l (ap (λ (t : List ℕ). t ++ drop (3 * length (fresh n)) o) r.front);
+          is = sym (take-append-drop (length (state_records part (fresh (length L)))) o)
+              ∙ rw l (ap (λ (t : List ℕ). t ++ drop (3 * length (fresh (length L))) o) r.front);
         });
-        upto = rw (← r.clear.states) (omega arith);
+        upto = rw (← ap length r.clear.listed) (omega arith);
       }
 
   module _ (out : List ℕ) (at used : ℕ) (m : Mid out o s part first at used) where
-    numbered : (x k : ℕ) → k ≡ idx (take n list) x → k ≡ idx S x
+    numbered : (x k : ℕ) → k ≡ idx L x → k ≡ idx S x
     numbered x k q = q ∙ ap (λ (L : List ℕ). idx L x) r.clear.listed
 
     pub mid_long : length out ≡ length o
@@ -85,7 +84,7 @@ module _ (o s list : List ℕ) (n part first : ℕ) (r : Ready o s list n part f
         let v = r.clear.good in
         let z : ◌≡◌ {A = ℕ} 0 1 = cc in omega arith
 
-    module _ (x next k : ℕ) (e : line_at s at ≡ Final x next) (q : k ≡ idx (take n list) x) where
+    module _ (x next k : ℕ) (e : line_at s at ≡ Final x next) (q : k ≡ idx L x) where
       final_named : In S x
       final_named = final_in m.done whole x (walk_longer s next (m.done ++ (final x ∷ [])) whole (walk_final s at m.done x next m.walk e)
           r.clear.good)
@@ -98,8 +97,8 @@ module _ (o s list : List ℕ) (n part first : ℕ) (r : Ready o s list n part f
           let z : length (fresh (length S)) ≡ length S = fresh_length (length S) (λ y. let w : ⊥ = omega arith in w) in
           omega arith
 
-      pub final_small : k < n
-      final_small = let h = final_named in let i = numbered x k q in let w = r.clear.states in omega arith
+      pub final_small : k < length L
+      final_small = let h = final_named in let i = numbered x k q in let w = ap length r.clear.listed in omega arith
 
       pub mid_final : Mid (set out (3 * k + 2) (final_flags k)) o s part first next used
       mid_final =
@@ -134,11 +133,11 @@ module _ (o s list : List ℕ) (n part first : ℕ) (r : Ready o s list n part f
       arc_longer : Longer (m.done ++ (arc x y a ∷ [])) whole
       arc_longer = walk_longer s next (m.done ++ (arc x y a ∷ [])) whole (walk_arc s at m.done x y a next m.walk e) r.clear.good
 
-      pub arc_source : (p : ℕ) → p ≡ idx (take n list) x → p < n
-      arc_source p q = let i = numbered x p q in let h = source_in m.done whole x y a arc_longer in let w = r.clear.states in omega arith
+      pub arc_source : (p : ℕ) → p ≡ idx L x → p < length L
+      arc_source p q = let i = numbered x p q in let h = source_in m.done whole x y a arc_longer in let w = ap length r.clear.listed in omega arith
 
-      pub arc_target : (p : ℕ) → p ≡ idx (take n list) y → p < n
-      arc_target p q = let i = numbered y p q in let h = target_in m.done whole x y a arc_longer in let w = r.clear.states in omega arith
+      pub arc_target : (p : ℕ) → p ≡ idx L y → p < length L
+      arc_target p q = let i = numbered y p q in let h = target_in m.done whole x y a arc_longer in let w = ap length r.clear.listed in omega arith
 
       pub arc_place : used + 5 ≤ length out
       arc_place =
@@ -151,7 +150,7 @@ module _ (o s list : List ℕ) (n part first : ℕ) (r : Ready o s list n part f
           let v = mid_long in
           omega arith
 
-      pub mid_arc : (p q : ℕ) → p ≡ idx (take n list) x → q ≡ idx (take n list) y → (l : List ℕ)
+      pub mid_arc : (p q : ℕ) → p ≡ idx L x → q ≡ idx L y → (l : List ℕ)
           → l ≡ put out used (3 ∷ (first + p) ∷ a ∷ a ∷ (first + q) ∷ []) → Mid l o s part first next (used + 5)
       unfolding put
       mid_arc p q hp hq left is =
@@ -173,63 +172,41 @@ module _ (o s list : List ℕ) (n part first : ℕ) (r : Ready o s list n part f
             upto = omega arith;
           }
 
-  pub under_start : Under o o s part first 0 (after_states n)
+  pub put_start : (used : ℕ) → used ≡ after_states (length L) → Mid o o s part first 0 used
   unfolding after_states
-  under_start = record { mid = λ e. mid_start _ refl; over = λ e. absurd (false≢true (sym e)) }
+  put_start used e = mid_start used e
 
-  module _ (out : List ℕ) (at : ℕ) (w : Writing) (u : Under out o s part first at w) (g : w.going ≡ true) where
-    here : Mid out o s part first at w.used
-    here = u.mid g
-
-    pub under_fits : (line : Line) → line ≡ line_at s at → LineFits line list n first w.used (length out)
-    under_fits line e = record {
-      few = r.clear.few;
-      long = r.clear.long;
-      top = r.clear.top;
+  module _ (out : List ℕ) (at used : ℕ) (m : Mid out o s part first at used) where
+    -- a line that is read, with the next one at `next`
+    pub put_fits : (l : Said) (next : ℕ) → line_saying l next ≡ line_at s at → LineFits l L used (length out)
+    put_fits l next e = record {
       states =
-          let v : length (flags whole S) ≡ length (fresh n) = flags_long whole S ∙ ap (λ (k : ℕ). length (fresh k)) (sym r.clear.states) in
-          let l = mid_long out at w.used here in
-          omega (arith, r.clear.enough, fresh_more n);
-      listed = by_line line e;
+          let v : length (flags whole S) ≡ length (fresh (length L)) = flags_long whole S ∙ ap (λ (k : ℕ). length (fresh k)) (sym (ap length r.clear.listed)) in
+          let h = mid_long out at used m in
+          omega (arith, r.clear.enough, fresh_more (length L));
+      listed = by_line l e;
     }
       where
-        by_line : (l : Line) → l ≡ line_at s at → Listed l (take n list) n w.used (length out)
-        by_line End i = tt
-        by_line (Final x next) i = final_small out at w.used here x next _ (sym i) refl
-        by_line (Arc x y a next) i = (
-          arc_source out at w.used here x y a next (sym i) _ refl,
-          arc_target out at w.used here x y a next (sym i) _ refl,
-          arc_place out at w.used here x y a next (sym i),
+        by_line : (k : Said) → line_saying k next ≡ line_at s at → Listed k L used (length out)
+        by_line (final x) i = final_small out at used m x next _ (sym i) refl
+        by_line (arc x y a) i = (
+          arc_source out at used m x y a next (sym i) _ refl,
+          arc_target out at used m x y a next (sym i) _ refl,
+          arc_place out at used m x y a next (sym i),
         )
-        by_line (Faulty b) i = tt
 
-    -- what a line leaves is further, with less ahead
-    abbrev Further : ℕ → AfterLine → Type 0
-    Further m d = Under d.out o s part first m d.writing × (ahead s d.writing.going m < ahead s w.going at)
-
-    pub under_next : (line : Line) → line ≡ line_at s at → (d : AfterLine) → d ≡ line_def line (take n list) first w out
-        → Further (place_after line at) d
-    under_next line e d is = subst (Further (place_after line at)) (sym is) (by_line line e)
+    pub put_more : (l : Said) (next : ℕ) → line_saying l next ≡ line_at s at → (k : ℕ) (new : List ℕ) → line_leaves k new ≡ line_def l L first used out
+        → Mid new o s part first next k
+    put_more l next e k new is = subst (λ (d : AfterLine). Mid d.out o s part first next d.used) (sym is) (by_line l e)
       where
-        by_line : (l : Line) → l ≡ line_at s at → Further (place_after l at) (line_def l (take n list) first w out)
-        by_line End i = (
-          record { mid = λ z. absurd (false≢true z); over = λ _. mid_end out at w.used here (sym i) },
-          rw g (omega arith),
-        )
-        by_line (Final x next) i =
-            let k = final_on s at x next (sym i) in (
-              record {
-                mid = λ _. mid_final out at w.used here x next _ (sym i) refl;
-                over = λ z. absurd (false≢true (sym z ∙ g));
-              },
-              rw g (omega (arith, k.0, k.1)),
-            )
-        by_line (Arc x y a next) i =
-            let k = arc_on s at x y a next (sym i) in (
-              record {
-                mid = λ _. mid_arc out at w.used here x y a next (sym i) _ _ refl refl _ refl;
-                over = λ z. absurd (false≢true (sym z ∙ g));
-              },
-              rw g (omega (arith, k.0, k.1)),
-            )
-        by_line (Faulty b) i = absurd (mid_faulty out at w.used here b (sym i))
+        by_line : (j : Said) → line_saying j next ≡ line_at s at → Mid (line_def j L first used out).out o s part first next (line_def j L first used out).used
+        by_line (final x) i = mid_final out at used m x next _ (sym i) refl
+        by_line (arc x y a) i = mid_arc out at used m x y a next (sym i) _ _ refl refl _ refl
+
+    -- the text is accepted: no line of it is faulty
+    pub put_reads : (b : Result (Option read.Line) Refusal) (next : ℕ) → line_advanced b next ≡ line_at s at → is_ok b ≡ true
+    put_reads (Ok o) next e = refl
+    put_reads (Err c) next e = absurd (mid_faulty out at used m _ (sym e))
+
+    pub put_end : End ≡ line_at s at → Filled out (written part first whole) o
+    put_end e = mid_end out at used m (sym e)

@@ -12,8 +12,7 @@ use Rattle.book.proofs.Laws.{and_left, and_right}
 use Rattle.att.specs.Fields.{field1, field2, field3, field_count, is_number, value}
 use Rattle.att.specs.Reading.{labels, is_state, is_label, faulty, final_line, arc_line, line_in, ended, line_at}
 use Rattle.att.specs.Text.{Said, arc, final, Read, accepted, turn, read_from, read_text, lines_in}
-use Rattle.att.specs.declared.reading.Line.{Line}
-use Rattle.att.specs.declared.reading.Line.TheVariants.{End, Final, Arc, Faulty}
+use Rattle.att.specs.Line.{Line, End, Final, Arc, Faulty}
 use Rattle.att.proofs.Good.{pick_both}
 
 abbrev Low : Line → Type 0

@@ -12,11 +12,10 @@ use Rattle.att.specs.Reading.{line_at}
 use Rattle.att.specs.Text.{Said, Read, refused, accepted, turn, read_from, read_text, lines_in, arc_count, written, state_count, needed, answer_read}
 use Rattle.att.specs.Text.{answer_of, import_def}
 use Rattle.att.specs.Placed.{import_bytes}
-use Rattle.att.specs.declared.reading.Line.{Line}
-use Rattle.att.specs.declared.reading.Line.TheVariants.{End, Final, Arc, Faulty}
+use Rattle.att.specs.Line.{Line, End, Final, Arc, Faulty}
 use Rattle.att.proofs.Surveying.{faulty_some}
 use Rattle.att.proofs.Answers.{accepting, answer_good, answer_part, answer_read_lem}
-use Rattle.att.proofs.Planning.{written_length}
+use Rattle.att.proofs.Flags.{written_length}
 
 refused_turn : (l : Line) (at : ℕ) (done : List Said) (go : ℕ → List Said → Read) (r p : ℕ) → (l ≡ Faulty r → r ≡ 0 → ⊥)
     → ((next : ℕ) (more : List Said) → go next more ≡ refused r p → r ≡ 0 → ⊥) → turn l at done go ≡ refused r p → r ≡ 0 → ⊥

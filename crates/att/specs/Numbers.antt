@@ -1,9 +1,8 @@
--- A field as the reader takes it, in one number of 32 bits; and a line from its fields' numbers.
+-- A field as the reader takes it, in one number; and a line from its fields' numbers.
 use Rattle.std.specs.Prelude.{ℕ, ◌-◌, List, cond, ltb, leb, eqb}
 use Rattle.att.specs.Fields.{is_number, value, most_state}
 use Rattle.att.specs.Reading.{labels, faulty}
-use Rattle.att.specs.declared.reading.Line.{Line}
-use Rattle.att.specs.declared.reading.Line.TheVariants.{Final, Arc}
+use Rattle.att.specs.Line.{Line, Final, Arc}
 
 -- what is read of a number above 65,535, and of what is no number
 abbrev pub too_high : ℕ

@@ -3,8 +3,7 @@
 use Rattle.std.specs.Prelude.{ℕ, ◌+◌, ◌-◌, List, Bool, true, false, ◌&&◌, ◌||◌, not, length, drop, ltb, leb, eqb}
 use Rattle.book.specs.Format.{symbol_count}
 use Rattle.att.specs.Fields.{newline, before, field_count, field1, field2, field3, is_number, value, most_state}
-use Rattle.att.specs.declared.reading.Line.{Line}
-use Rattle.att.specs.declared.reading.Line.TheVariants.{End, Final, Arc, Faulty}
+use Rattle.att.specs.Line.{Line, End, Final, Arc, Faulty}
 
 -- "label k means symbol k - 1": the highest label is the number of symbols
 abbrev pub labels : ℕ

@@ -5,8 +5,7 @@ use Rattle.book.specs.Format.{most_states, most_arcs, state_kind, arc_kind, righ
 unfoldable pub use Rattle.book.specs.Format.{idx}
 use Rattle.book.specs.declared.Written.{Written}
 use Rattle.att.specs.Reading.{line_at}
-use Rattle.att.specs.declared.reading.Line.{Line}
-use Rattle.att.specs.declared.reading.Line.TheVariants.{End, Final, Arc, Faulty}
+use Rattle.att.specs.Line.{Line, End, Final, Arc, Faulty}
 
 -- what a line says: an arc by source, destination and symbol; or a final state
 pub data Said : Type 0 where

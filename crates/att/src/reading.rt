@@ -1,139 +1,138 @@
 // One line of a text, and the text with a place in it.
-ghost use Rattle.std.specs.Prelude.{◌≡◌};
+ghost use Rattle.std.specs.Prelude.{ℕ, ◌≡◌, IfErr};
 ghost use Rattle.att.specs.Reading.{final_line, arc_line, line_in, line_at};
-ghost use Rattle.att.specs.Numbers.{final_of, arc_of};
-ghost use Rattle.att.specs.Survey.{place_after, moved};
+ghost use Rattle.att.specs.Results.{StateRead, line_read, line_found, line_advanced, place_after};
 
-use crate::fields::{MOST_STATE, NO_NUMBER, behind, field_count, front, number, span};
+use crate::fields::{Unread, cut, field_count, number, span};
+use book::replies::{Reason, Refusal};
 
 // Ends each line.
 const NEWLINE: u8 = b'\n';
 
 // The highest label: "label k means symbol k - 1".
-const LABELS: u32 = book::SYMBOLS as u32;
+const LABELS: u16 = book::SYMBOLS as u16;
 
-// What stands at a place of the text. The last number of a good line is the place of the next.
+// What a good line says.
 #[derive(Clone, Copy)]
 pub enum Line {
-    End,
-    Final(u16, usize),
-    Arc(u16, u16, u8, usize),
-    Faulty(u8),
+    Final { state: u16 },
+    Arc { from: u16, to: u16, symbol: u8 },
+}
+
+impl Line {
+    ghost use Rattle.att.specs.Text.{arc_one};
+    ghost use Rattle.att.specs.Results.{said};
+
+    // How many arcs it gives.
+    pub fn arcs(self) -> usize
+        ensures { result ≡ arc_one (said self) }
+    {
+        match self {
+            Line::Final { .. } => 0,
+            Line::Arc { .. } => 1,
+        }
+    }
 }
 
 // The text and a place in it, kept together.
 #[derive(Clone, Copy)]
 pub struct Lines<'a> {
-    pub text: &'a [u8],
-    pub at: usize,
+    text: &'a [u8],
+    at: usize,
 }
 
-// A line of one field, read as a number.
-fn final_of(a: u32, next: usize) -> Line
-    ensures { result ≡ final_of a next }
+// A state's field.
+fn state(f: &[u8]) -> Result<u16, Reason>
+    ensures { StateRead f.now result }
 {
-    if MOST_STATE < a {
-        return Line::Faulty(18);
-    }
-    Line::Final(a as u16, next)
+    number(f).map_err(|_| Reason::BadLine)
 }
 
-// A line of three fields, read as numbers.
-fn arc_of(a: u32, b: u32, k: u32, next: usize) -> Line
-    ensures { result ≡ arc_of a b k next }
+// A line of one field.
+fn final_line(l: &[u8]) -> Result<Line, Reason>
+    ensures { (next : ℕ) → line_read result next ≡ final_line l.now next }
 {
-    if MOST_STATE < a {
-        return Line::Faulty(18);
-    }
-    if MOST_STATE < b {
-        return Line::Faulty(18);
-    }
-    if k == NO_NUMBER {
-        return Line::Faulty(18);
-    }
-    if k == 0 {
-        return Line::Faulty(19); // the empty word
-    }
-    if LABELS < k {
-        return Line::Faulty(19); // no symbol
-    }
-    Line::Arc(a as u16, b as u16, (k - 1) as u8, next)
+    let (f, _) = cut(l);
+    Ok(Line::Final { state: state(f)? })
 }
 
-fn final_line(l: &[u8], next: usize) -> Line
-    ensures { result ≡ final_line l.now next }
+// A line of three fields.
+fn arc_line(l: &[u8]) -> Result<Line, Reason>
+    ensures { (next : ℕ) → line_read result next ≡ arc_line l.now next }
 {
-    final_of(number(front(l)), next)
+    let (f1, rest) = cut(l);
+    let (f2, rest) = cut(rest);
+    let (f3, _) = cut(rest);
+    let from = state(f1)?;
+    let to = state(f2)?;
+    match number(f3) {
+        Ok(0) => Err(Reason::BadLabel), // the empty word
+        Ok(k) => {
+            if LABELS < k {
+                return Err(Reason::BadLabel); // no symbol
+            }
+            let symbol = (k - 1) as u8;
+            Ok(Line::Arc { from, to, symbol })
+        }
+        Err(Unread::TooHigh) => Err(Reason::BadLabel), // no symbol
+        Err(Unread::NoNumber) => Err(Reason::BadLine),
+    }
 }
 
-fn arc_line(l: &[u8], next: usize) -> Line
-    ensures { result ≡ arc_line l.now next }
-{
-    let l2 = behind(l);
-    let l3 = behind(l2);
-    let a = number(front(l));
-    let b = number(front(l2));
-    let k = number(front(l3));
-    arc_of(a, b, k, next)
-}
-
-// A line without its newline; `ended` where it has one.
-fn line_in(l: &[u8], ended: bool, next: usize) -> Line
-    ensures { result ≡ line_in l.now ended next }
+// A line without its newline; `ended` where it has one: no switch but a fact about the line, as in the believed definition `line_in`.
+fn line_in(l: &[u8], ended: bool) -> Result<Line, Reason>
+    ensures { (next : ℕ) → line_read result next ≡ line_in l.now ended next }
 {
     let n = field_count(l);
-    if n == 2 {
-        return Line::Faulty(20); // a final state with its weight
-    }
-    if n == 4 {
-        return Line::Faulty(20); // an arc with its weight
+    if n == 2 || n == 4 {
+        return Err(Reason::NoAcceptor); // with its weight
     }
     if !ended {
-        return Line::Faulty(18); // no newline
+        return Err(Reason::BadLine); // no newline
     }
-    if n == 1 {
-        return final_line(l, next);
+    match n {
+        1 => final_line(l),
+        3 => arc_line(l),
+        _ => Err(Reason::BadLine),
     }
-    if n == 3 {
-        return arc_line(l, next);
-    }
-    Line::Faulty(18)
 }
 
-// The line that starts at `at`.
-fn line_at(text: &[u8], at: usize) -> Line
-    ensures { result ≡ line_at text.now at }
+// The line that starts at `at`, and the place of the next; None at the end.
+fn line_at(text: &[u8], at: usize) -> Result<Option<(Line, usize)>, Reason>
+    ensures { line_found result ≡ line_at text.now at }
 {
     if text.len() <= at {
-        return Line::End;
+        return Ok(None);
     }
     let rest = &text[at..];
     let e = span(rest, NEWLINE);
-    let l = &rest[..e];
-    if e < rest.len() {
-        return line_in(l, true, at + e + 1);
-    }
-    line_in(l, false, 0)
+    let line = line_in(&rest[..e], e < rest.len())?;
+    Ok(Some((line, at + e + 1)))
 }
 
-// Where the reading goes on after a line: at the next one; where it is, at the end and at a faulty line.
-fn place_after(line: Line, at: usize) -> usize
-    ensures { result ≡ place_after line at }
-{
-    match line {
-        Line::Final(_, next) => return next,
-        Line::Arc(_, _, _, next) => return next,
-        Line::End => return at,
-        Line::Faulty(_) => return at,
+impl<'a> Lines<'a> {
+    // The text from its front on.
+    pub fn new(text: &'a [u8]) -> Lines<'a>
+        ensures text { result.text.now ≡ text.now }
+        ensures at { result.at ≡ 0 }
+    {
+        Lines { text, at: 0 }
     }
-}
 
-// One line more: the line at the place, which moves on.
-pub fn advance<'s, 'a>(lines: &'s mut Lines<'a>) -> Line
-    ensures { (result ≡ line_at lines.old.text.now lines.old.at)
-        × (lines.new ≡ moved lines.old (place_after result lines.old.at)) }
-{
-    let line = line_at(lines.text, lines.at);
-    lines.at = place_after(line, lines.at);
-    line
+    // One line more: the line at the place, which moves on. At the end and at a faulty line, which is refused with its place, it stays.
+    pub fn advance(&mut self) -> Result<Option<Line>, Refusal>
+        ensures line { line_advanced result self.new.at ≡ line_at self.old.text.now self.old.at }
+        ensures text { self.new.text.now ≡ self.old.text.now }
+        ensures at { self.new.at ≡ place_after (line_advanced result self.new.at) self.old.at }
+        ensures place { IfErr result (λ e. e.place ≡ self.old.at) }
+    {
+        match line_at(self.text, self.at) {
+            Ok(Some((line, next))) => {
+                self.at = next;
+                Ok(Some(line))
+            }
+            Ok(None) => Ok(None),
+            Err(reason) => Err(reason.at(self.at)),
+        }
+    }
 }

@@ -16,6 +16,7 @@ pub mod Accepted
 pub mod Retired
 pub mod Sound
 pub mod Walk
+pub mod Stepping
 pub mod Fronts
 pub mod Grown
 pub mod Records
@@ -27,6 +28,7 @@ pub mod Unused
 -- CHECK with fewer symbols.
 pub mod Before
 -- What the crates above may rely on.
+pub mod Refusals
 pub mod Claims
 pub mod OneMasks
 pub mod One

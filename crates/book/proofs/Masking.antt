@@ -13,8 +13,9 @@ use native.Mathlib.Omega.{arith}
 use lib.Pow.{pow-lt, pow_pos}
 use lib.Dec.{eqb}
 use lib.Bits.{bit_or, or_lt, or_zero_r, or_self}
-use lib.ListN.{length, get_or, set, length-set, get_or-eq_default}
-use lib.Seq.{get_or-set_same, get_or-set_other, get_or-append_seam}
+use native.Mathlib.Numerals.{add-one}
+use lib.ListN.{length, take, get_or, set, length-set, get_or-eq_default}
+use lib.Seq.{take-suc, get_or-set_same, get_or-set_other, get_or-append_seam}
 use borrow.Author.Tests.{eqb-true, eqb-false, eq-eqb, ne_eqb}
 use Rattle.book.specs.StateSets.{member, encode}
 use Rattle.book.proofs.Bits.{or_assoc, member_or, member_one, member_none, member_encode, encode_lt, is_encode}
@@ -25,7 +26,7 @@ use Rattle.book.proofs.Walk.{Walk, walk_passed, states_more}
 use Rattle.book.specs.Language.{no_state, state_of, flagged, is_of}
 use Rattle.book.specs.Sound.{Sound}
 use Rattle.book.specs.Outline.{left_accepts, focus_starts, focus_accepts, right_starts, all_starts, all_accepts, left_starts, right_accepts}
-use Rattle.book.specs.Outline.{passes, rule_mask, all_mask, mask_count, Masked, Joined, one_bit, in_rule, in_all, rule_bits, all_bits}
+use Rattle.book.specs.Outline.{passes, rule_mask, all_mask, mask_count, Masked, Joined, in_rule, in_all, state_bits}
 use Rattle.book.proofs.Pad.{zeros, pad_nil, length_pad}
 use Rattle.book.proofs.Placing.{snoc_other}
 
@@ -93,25 +94,22 @@ unfolding holds in_rule in_all
 none_holds j =
     simp (no_state_lem left_part accept_flag, no_state_lem left_part start_flag, B.and-false)
 
--- a state is added to one mask
-pub joined_bit : (part flag : ℕ) (s : List ℕ) (at k i bit : ℕ) (l : List ℕ)
-    → bit ≡ cond (passes part flag (byte s (at + part_at)) (byte s (at + flags_at))) (2 ^ k) 0 → i < length l
-    → Joined (one_bit part flag s at k i) l (set l i (bit_or (get_or l i 0) bit))
-unfolding one_bit
-joined_bit part flag s at k i bit l e h = record { same = length-set l i (bit_or (get_or l i 0) bit); each = λ j. one j (ℕ_discrete j i) }
+-- a state is added to one mask, or to none
+joined_here : (y i : ℕ) (l : List ℕ) → i < length l → Joined (λ j. cond (eqb j i && true) y 0) l (set l i (bit_or (get_or l i 0) y))
+joined_here y i l h = record { same = length-set l i (bit_or (get_or l i 0) y); each = λ j. one j (ℕ_discrete j i) }
   where
-    test : Bool
-    test = passes part flag (byte s (at + part_at)) (byte s (at + flags_at))
-
-    one : (j : ℕ) → Dec (j ≡ i) → get_or (set l i (bit_or (get_or l i 0) bit)) j 0 ≡ bit_or (get_or l j 0) (cond (eqb j i && test) (2 ^ k) 0)
+    one : (j : ℕ) → Dec (j ≡ i) → get_or (set l i (bit_or (get_or l i 0) y)) j 0 ≡ bit_or (get_or l j 0) (cond (eqb j i && true) y 0)
     one j (yes p) =
-        ap (λ (x : ℕ). get_or (set l i (bit_or (get_or l i 0) bit)) x 0) p
-        ∙ get_or-set_same l i (bit_or (get_or l i 0) bit) 0 h
-        ∙ ap₂ bit_or (ap (λ (x : ℕ). get_or l x 0) (sym p)) (e ∙ ap (λ (b : Bool). cond (b && test) (2 ^ k) 0) (sym (eq-eqb j i p)))
+        ap (λ (x : ℕ). get_or (set l i (bit_or (get_or l i 0) y)) x 0) p
+        ∙ get_or-set_same l i (bit_or (get_or l i 0) y) 0 h
+        ∙ ap₂ bit_or (ap (λ (x : ℕ). get_or l x 0) (sym p)) (ap (λ (b : Bool). cond (b && true) y 0) (sym (eq-eqb j i p)))
     one j (no p) =
-        get_or-set_other l i j (bit_or (get_or l i 0) bit) 0 p
+        get_or-set_other l i j (bit_or (get_or l i 0) y) 0 p
         ∙ sym (or_zero_r (get_or l j 0))
-        ∙ ap (λ (b : Bool). bit_or (get_or l j 0) (cond (b && test) (2 ^ k) 0)) (sym (ne_eqb j i p))
+        ∙ ap (λ (b : Bool). bit_or (get_or l j 0) (cond (b && true) y 0)) (sym (ne_eqb j i p))
+
+joined_none : (m : ℕ → Bool) (y : ℕ) (l : List ℕ) → ((j : ℕ) → m j ≡ false) → Joined (λ j. cond (m j) y 0) l l
+joined_none m y l f = record { same = refl; each = λ j. sym (ap (λ (b : Bool). bit_or (get_or l j 0) (cond b y 0)) (f j) ∙ or_zero_r (get_or l j 0)) }
 
 -- and to several, by one test after the other
 two_bits : (a b : Bool) (x y : ℕ) → bit_or (bit_or x (cond a y 0)) (cond b y 0) ≡ bit_or x (cond (a || b) y 0)
@@ -126,32 +124,90 @@ joined_two p q y l l' l'' a b = record {
   each = λ j. b.each j ∙ ap (λ (x : ℕ). bit_or x (cond (q j) y 0)) (a.each j) ∙ two_bits (p j) (q j) (get_or l j 0) y;
 }
 
-joined_four : (p q u v : ℕ → Bool) (y : ℕ) (l₀ l₁ l₂ l₃ l₄ : List ℕ) → Joined (λ j. cond (p j) y 0) l₀ l₁ → Joined (λ j. cond (q j) y 0) l₁ l₂
-    → Joined (λ j. cond (u j) y 0) l₂ l₃ → Joined (λ j. cond (v j) y 0) l₃ l₄ → Joined (λ j. cond (p j || q j || u j || v j) y 0) l₀ l₄
-joined_four p q u v y l₀ l₁ l₂ l₃ l₄ a b c d =
-    joined_two (λ j. p j || q j || u j) v y l₀ l₃ l₄ (joined_two (λ j. p j || q j) u y l₀ l₂ l₃ (joined_two p q y l₀ l₁ l₂ a b) c) d
+joined_same : (p q : ℕ → Bool) (y : ℕ) (l l' : List ℕ) → ((j : ℕ) → p j ≡ q j) → Joined (λ j. cond (p j) y 0) l l' → Joined (λ j. cond (q j) y 0) l l'
+joined_same p q y l l' f a = record { same = a.same; each = λ j. a.each j ∙ ap (λ (b : Bool). bit_or (get_or l j 0) (cond b y 0)) (f j) }
 
-module _ (s : List ℕ) (at k : ℕ) (l₀ l₁ l₂ l₃ l₄ : List ℕ) where
-  -- the test of one mask
-  test : ℕ → ℕ → ℕ → ℕ → Bool
-  test part flag i j = eqb j i && passes part flag (byte s (at + part_at)) (byte s (at + flags_at))
+-- A table of masks: the part and the flag of each mask's states, and where it stands. A state with that part and those flags is put to mask j by one
+-- of its lines.
+pub hits : List (ℕ × ℕ × ℕ) → ℕ → ℕ → ℕ → Bool
+hits [] p f j = false
+hits (e ∷ t) p f j = eqb j e.2 && passes e.0 e.1 p f || hits t p f j
 
-  pub joined_rule : (r : ℕ) → Joined (one_bit left_part accept_flag s at k (0 + r)) l₀ l₁ → Joined (one_bit focus_part start_flag s at k (focus_starts r)) l₁ l₂
-      → Joined (one_bit focus_part accept_flag s at k (focus_accepts r)) l₂ l₃ → Joined (one_bit right_part start_flag s at k (right_starts r)) l₃ l₄
-      → Joined (rule_bits s at k r) l₀ l₄
-  unfolding one_bit rule_bits in_rule test
-  joined_rule r a =
-      joined_four (test left_part accept_flag (left_accepts r)) (test focus_part start_flag (focus_starts r))
-      (test focus_part accept_flag (focus_accepts r)) (test right_part start_flag (right_starts r)) (2 ^ k) l₀ l₁ l₂ l₃ l₄
-      (subst (λ (i : ℕ). Joined (one_bit left_part accept_flag s at k i) l₀ l₁) (zero-add r) a)
+or_assoc_bool : (a b c : Bool) → (a || (b || c)) ≡ ((a || b) || c)
+or_assoc_bool true b c = refl
+or_assoc_bool false b c = refl
 
-  pub joined_all : Joined (one_bit focus_part start_flag s at k all_starts) l₀ l₁ → Joined (one_bit focus_part accept_flag s at k all_accepts) l₁ l₂
-      → Joined (one_bit left_part start_flag s at k left_starts) l₂ l₃ → Joined (one_bit right_part accept_flag s at k right_accepts) l₃ l₄
-      → Joined (all_bits s at k) l₀ l₄
-  unfolding one_bit all_bits in_all test
-  joined_all =
-      joined_four (test focus_part start_flag all_starts) (test focus_part accept_flag all_accepts) (test left_part start_flag left_starts)
-      (test right_part accept_flag right_accepts) (2 ^ k) l₀ l₁ l₂ l₃ l₄
+hits_more : (t : List (ℕ × ℕ × ℕ)) (e : ℕ × ℕ × ℕ) (p f j : ℕ) → hits (t ++ (e ∷ [])) p f j ≡ (hits t p f j || eqb j e.2 && passes e.0 e.1 p f)
+unfolding hits
+hits_more [] e p f j = B.or-false _
+hits_more (x ∷ t) e p f j = ap (λ (b : Bool). eqb j x.2 && passes x.0 x.1 p f || b) (hits_more t e p f j) ∙ or_assoc_bool (eqb j x.2 && passes x.0 x.1 p f) _ _
+
+-- the lines so far
+module _ (p f y : ℕ) (l : List ℕ) where
+  abbrev pub Hit : List (ℕ × ℕ × ℕ) → List ℕ → Type 0
+  Hit t m = Joined (λ j. cond (hits t p f j) y 0) l m
+
+  pub hit_none : Hit [] l
+  unfolding hits
+  hit_none = joined_none (λ j. false) y l (λ j. refl)
+
+  module _ (t : List (ℕ × ℕ × ℕ)) (e : ℕ × ℕ × ℕ) (m : List ℕ) (h : Hit t m) where
+    hit_here : passes e.0 e.1 p f ≡ true → e.2 < length m → Hit (t ++ (e ∷ [])) (set m e.2 (bit_or (get_or m e.2 0) y))
+    hit_here g i =
+        joined_same (λ j. hits t p f j || eqb j e.2 && true) (hits (t ++ (e ∷ [])) p f) y l _
+        (λ j. ap (λ (b : Bool). hits t p f j || eqb j e.2 && b) (sym g) ∙ sym (hits_more t e p f j))
+        (joined_two (hits t p f) (λ j. eqb j e.2 && true) y l m _ h (joined_here y e.2 m i))
+
+    hit_other : passes e.0 e.1 p f ≡ false → Hit (t ++ (e ∷ [])) m
+    hit_other g =
+        joined_same (hits t p f) (hits (t ++ (e ∷ [])) p f) y l m
+        (λ j. sym (ap (λ (b : Bool). hits t p f j || eqb j e.2 && b) g ∙ ap (λ (b : Bool). hits t p f j || b) (B.and-false (eqb j e.2))
+        ∙ B.or-false (hits t p f j)) ∙ sym (hits_more t e p f j))
+        h
+
+  module _ (t : List (ℕ × ℕ × ℕ)) (i : ℕ) (d : ℕ × ℕ × ℕ) (m : List ℕ) (h : Hit (take i t) m) (inside : i < length t) where
+    pub line_here : passes (get_or t i d).0 (get_or t i d).1 p f ≡ true → (get_or t i d).2 < length m
+        → Hit (take (i + 1) t) (set m (get_or t i d).2 (bit_or (get_or m (get_or t i d).2 0) y))
+    line_here g k = rw (add-one, take-suc t i d inside) (hit_here (take i t) (get_or t i d) m h g k)
+
+    pub line_other : passes (get_or t i d).0 (get_or t i d).1 p f ≡ false → Hit (take (i + 1) t) m
+    line_other g = rw (add-one, take-suc t i d inside) (hit_other (take i t) (get_or t i d) m h g)
+
+eight : (a b c d e f g h : Bool) → (a || (b || (c || (d || (e || (f || (g || (h || false)))))))) ≡ ((a || b || c || d) || (e || f || g || h))
+eight true b c d e f g h = refl
+eight false true c d e f g h = refl
+eight false false true d e f g h = refl
+eight false false false true e f g h = refl
+eight false false false false true f g h = refl
+eight false false false false false true g h = refl
+eight false false false false false false true h = refl
+eight false false false false false false false h = B.or-false h
+
+-- the table of a rule's masks and of all rules', at its end
+abbrev mask_table : ℕ → ℕ → List (ℕ × ℕ × ℕ)
+mask_table i r =
+    (left_part, accept_flag, i) ∷ (focus_part, start_flag, focus_starts r) ∷ (focus_part, accept_flag, focus_accepts r) ∷ (right_part, start_flag, right_starts r)
+    ∷ (focus_part, start_flag, all_starts) ∷ (focus_part, accept_flag, all_accepts) ∷ (left_part, start_flag, left_starts) ∷ (right_part, accept_flag, right_accepts)
+    ∷ []
+
+pub hit_all : (s : List ℕ) (at k r p f y i : ℕ) (l m : List ℕ) → p ≡ byte s (at + part_at) → f ≡ byte s (at + flags_at) → y ≡ 2 ^ k → i ≡ 8
+    → Hit p f y l (take i (mask_table (0 + r) r)) m
+    → Joined (state_bits s at k r) l m
+unfolding hits state_bits in_rule in_all
+hit_all s at k r p f y i l m a b c d h =
+    let all : Hit p f y l (mask_table r r) m =
+    subst (λ (x : ℕ). Hit p f y l (mask_table x r) m) (zero-add r) (subst (λ (x : ℕ). Hit p f y l (take x (mask_table (0 + r) r)) m) d h) in
+    let here : Hit (byte s (at + part_at)) (byte s (at + flags_at)) (2 ^ k) l (mask_table r r) m =
+    subst (λ (x : ℕ). Hit (byte s (at + part_at)) (byte s (at + flags_at)) x l (mask_table r r) m) c
+    (subst (λ (x : ℕ). Hit (byte s (at + part_at)) x y l (mask_table r r) m) b (subst (λ (x : ℕ). Hit x f y l (mask_table r r) m) a all)) in
+    joined_same (hits (mask_table r r) (byte s (at + part_at)) (byte s (at + flags_at)))
+    (λ j. in_rule (byte s (at + part_at)) (byte s (at + flags_at)) r j || in_all (byte s (at + part_at)) (byte s (at + flags_at)) j) (2 ^ k) l m (λ j.
+    eight (test left_part accept_flag (left_accepts r) j) (test focus_part start_flag (focus_starts r) j) (test focus_part accept_flag (focus_accepts r) j)
+    (test right_part start_flag (right_starts r) j) (test focus_part start_flag all_starts j) (test focus_part accept_flag all_accepts j)
+    (test left_part start_flag left_starts j) (test right_part accept_flag right_accepts j)) here
+  where
+    test : ℕ → ℕ → ℕ → ℕ → Bool
+    test part flag i j = eqb j i && passes part flag (byte s (at + part_at)) (byte s (at + flags_at))
 
 -- the masks of the states so far
 pub record Masking (states : List State) (masks : List ℕ) : Type 0 where
@@ -169,20 +225,17 @@ module _ (s : List ℕ) (at : ℕ) (b B : Book) (w : Walk s at b B) where
   pub state_rule : byte s at ≡ state_kind → (length b.states < most_states) × (0 < length b.words)
   state_rule k = let z = state_fits _ _ _ _ 0 0 (kind_state s at b (walk_passed s at b B w).kind k) in (z.0, z.1)
 
-  pub masking_more : (r : ℕ) (l l' l'' : List ℕ) → byte s at ≡ state_kind → r + 1 ≡ length b.words
-      → Joined (rule_bits s at (length b.states) r) l l' → Joined (all_bits s at (length b.states)) l' l''
-      → Masking b.states l → Masking (with_record s at b).states l''
-  unfolding rule_bits all_bits holds
-  masking_more r l l' l'' k e p q m =
+  pub masking_more : (r : ℕ) (l l' : List ℕ) → byte s at ≡ state_kind → r + 1 ≡ length b.words → Joined (state_bits s at (length b.states) r) l l'
+      → Masking b.states l → Masking (with_record s at b).states l'
+  unfolding state_bits holds
+  masking_more r l l' k e p m =
       let st = state_at s at b in
       let same : st.rule ≡ r = omega arith in
-      let p' : Joined (λ j. cond (in_rule st.part st.flags st.rule j) (2 ^ length b.states) 0) l l' =
-      rw same p in
-      let both = joined_two (in_rule st.part st.flags st.rule) (in_all st.part st.flags) (2 ^ length b.states) l l' l'' p' q in
+      let p' : Joined (λ j. cond (holds j st) (2 ^ length b.states) 0) l l' = rw same p in
       rw (states_more s at b k) (record {
-        long = both.same ∙ m.long;
+        long = p'.same ∙ m.long;
         each = λ j h.
-            both.each j ∙ ap (λ (x : ℕ). bit_or x (cond (holds j st) (2 ^ length b.states) 0)) (m.each j h)
+            p'.each j ∙ ap (λ (x : ℕ). bit_or x (cond (holds j st) (2 ^ length b.states) 0)) (m.each j h)
             ∙ sym (put (holds j) (none_holds j) b.states st (state_rule k).0);
       })
 

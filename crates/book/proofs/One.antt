@@ -2,8 +2,15 @@
 use mathlib.Core.Path.{refl, sym, ◌∙◌}
 use Rattle.book.specs.Determined.{Determined, Called}
 use Rattle.book.proofs.OneMasks.{one_masks}
+use Rattle.book.proofs.Refusals.{checked_one}
+use Rattle.book.proofs.read.Kinds as read-kinds
+use Rattle.book.proofs.read.Reads as read-reads
 use Rattle.book.proofs.check.Kinds as check-kinds
 use Rattle.book.proofs.check.Reads as check-reads
+use Rattle.book.proofs.replies.Reason.number.Kinds as number-kinds
+use Rattle.book.proofs.replies.Reason.number.Reads as number-reads
+use Rattle.book.proofs.replies.Reason.at.Kinds as at-kinds
+use Rattle.book.proofs.replies.Reason.at.Reads as at-reads
 use Rattle.book.proofs.record_size.Kinds as size-kinds
 use Rattle.book.proofs.record_size.Reads as size-reads
 use Rattle.book.proofs.outline.place_rules.Kinds as rules-kinds
@@ -16,6 +23,17 @@ use Rattle.book.proofs.outline.outline_of.Reads as outline-reads
 -- CHECK: the answer
 pub one_result : Determined 1 check-kinds.ps check-kinds.r check-reads.Post
 one_result κs a x y v w p q = (p ∙ sym q, refl)
+
+-- the result: its reason and place, or its counts
+pub one_read : Determined 1 read-kinds.ps read-kinds.r read-reads.Post
+one_read κs a x y v w p q = (checked_one _ _ (p ∙ sym q), refl)
+
+-- a reason's number, and its refusal at a place
+pub one_number : Determined 0 number-kinds.ps number-kinds.r number-reads.Post
+one_number κs a x y v w p q = (p ∙ sym q, refl)
+
+pub one_refusal : Determined 0 at-kinds.ps at-kinds.r at-reads.Post
+one_refusal κs a x y v w p q = (p ∙ sym q, refl)
 
 pub one_size : Determined 0 size-kinds.ps size-kinds.r size-reads.Post
 one_size κs a x y v w p q = (p ∙ sym q, refl)

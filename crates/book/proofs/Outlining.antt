@@ -1,13 +1,13 @@
 -- The outline of an accepted book as far as the walk over its records has come: the places of the states so far and their masks. A rule's record
--- counts, a state's adds a place and a state to the masks, an arc's changes nothing. Assumes nothing.
+-- counts, a state's adds a place and a state to the masks, any other changes nothing. Assumes nothing.
 use Prim.Native.Nat.{ℕ, ◌+◌, ◌-◌, ◌<◌}
 use mathlib.Core.Path.{◌≡◌, refl, sym, ◌∙◌}
 use mathlib.Core.List.{List, []}
 use native.Mathlib.Omega.{arith}
 use lib.ListN.{length, set, length-append}
-use Rattle.book.specs.Format.{most_rules, most_states, rule_kind, state_kind, arc_kind, end_kind, byte, pad, record_size}
+use Rattle.book.specs.Format.{most_rules, most_states, rule_kind, state_kind, end_kind, byte, pad, record_size}
 use Rattle.book.specs.Reading.{Book, empty, check_def, book_of, with_record}
-use Rattle.book.specs.Outline.{state_places, mask_count, Masked, Joined, rule_bits, all_bits}
+use Rattle.book.specs.Outline.{state_places, mask_count, Masked, Joined, state_bits}
 use Rattle.book.proofs.Pad.{pad_nil}
 use Rattle.book.proofs.Walk.{Walk, walk_start, walk_passed, walk_last, walk_more, states_more, states_same, words_rule, words_same}
 use Rattle.book.proofs.Placing.{Placing, placing_start, placing_here, placing_other, placing_end}
@@ -50,22 +50,22 @@ module _ (s : List ℕ) (at rules states : ℕ) (places masks : List ℕ) (i : O
         masking = rw same i.masking;
       }
 
-  pub outlining_arc : byte s at ≡ arc_kind → Outlining s (at + record_size (byte s at)) rules states places masks
-  outlining_arc k =
+  pub outlining_other : (byte s at ≡ end_kind → ⊥) → (byte s at ≡ rule_kind → ⊥) → (byte s at ≡ state_kind → ⊥)
+      → Outlining s (at + record_size (byte s at)) rules states places masks
+  outlining_other e r k =
       let q = walk_passed s at i.book _ i.walk in
-      let same = states_same s at i.book (λ e. omega arith) in
+      let same = states_same s at i.book k in
       record {
         book = with_record s at i.book;
-        walk = walk_more s at i.book _ i.walk (λ e. omega arith);
-        placing =
-            rw same (placing_other state_kind s most_states at states places _ q.inside (λ e. omega arith) q.known (λ e. omega arith) i.placing);
-        many = rw (words_same s at i.book (λ e. omega arith)) i.many;
+        walk = walk_more s at i.book _ i.walk e;
+        placing = rw same (placing_other state_kind s most_states at states places _ q.inside e q.known k i.placing);
+        many = rw (words_same s at i.book r) i.many;
         masking = rw same i.masking;
       }
 
-  pub outlining_state : (l l' : List ℕ) → byte s at ≡ state_kind → Joined (rule_bits s at states (rules - 1)) masks l → Joined (all_bits s at states) l l'
-      → Outlining s (at + record_size (byte s at)) rules (states + 1) (set places states at) l'
-  outlining_state l l' k p q =
+  pub outlining_state : (p : ℕ) (l : List ℕ) → p ≡ at → byte s at ≡ state_kind → Joined (state_bits s at states (rules - 1)) masks l
+      → Outlining s (at + record_size (byte s at)) rules (states + 1) (set places states p) l
+  outlining_state p l e k j =
       let w = walk_passed s at i.book _ i.walk in
       let fits = state_fits_in k in
       let n : states ≡ length i.book.states = i.placing.same in
@@ -73,11 +73,11 @@ module _ (s : List ℕ) (at rules states : ℕ) (places masks : List ℕ) (i : O
         book = with_record s at i.book;
         walk = walk_more s at i.book _ i.walk (λ e. omega arith);
         placing =
-            rw (states_more s at i.book k, length-append)
+            rw (e, states_more s at i.book k, length-append)
             (placing_here state_kind s most_states at states places _ w.inside (λ e. omega arith) w.known k fits.0 i.placing);
         many = rw (words_same s at i.book (λ e. omega arith)) i.many;
         masking =
-            masking_more s at i.book _ i.walk (rules - 1) masks l l' k (omega (arith, i.many, fits.1)) (rw (sym n) p) (rw (sym n) q) i.masking;
+            masking_more s at i.book _ i.walk (rules - 1) masks l k (omega (arith, i.many, fits.1)) (rw (sym n) j) i.masking;
       }
 
   pub outlining_end : byte s at ≡ end_kind → (places ≡ state_places s) × Masked (book_of s).states masks

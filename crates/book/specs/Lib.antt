@@ -8,7 +8,9 @@ pub mod Before
 -- A symbol that a book does not use, for theorems.
 pub mod Unused
 -- For the contracts of inner functions, and for the crates above: each is proved of what the believed files say.
+pub mod Refusals
 pub mod Scanning
+pub mod Records
 pub mod Outline
 pub mod Sound
 pub mod Fronts

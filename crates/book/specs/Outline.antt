@@ -115,10 +115,6 @@ pub record Joined (more : ℕ → ℕ) (l l' : List ℕ) : Type 0 where
   pub same : length l' ≡ length l
   pub each : (j : ℕ) → get_or l' j 0 ≡ bit_or (get_or l j 0) (more j)
 
--- what state k adds to mask j, if it is added to mask i alone and its record at `at` is of that part with that flag
-unfoldable pub one_bit : ℕ → ℕ → List ℕ → ℕ → ℕ → ℕ → ℕ → ℕ
-one_bit part flag s at k i j = cond (eqb j i && passes part flag (byte s (at + part_at)) (byte s (at + flags_at))) (2 ^ k) 0
-
 -- mask j holds a state of rule r with that part and those flags: among the masks of its rule, and among those of all rules
 unfoldable pub in_rule : ℕ → ℕ → ℕ → ℕ → Bool
 in_rule p f r j =
@@ -134,9 +130,9 @@ in_all p f j =
     || eqb j left_starts && passes left_part start_flag p f
     || eqb j right_accepts && passes right_part accept_flag p f
 
--- what the state whose record stands at `at` adds to each mask
-unfoldable pub rule_bits : List ℕ → ℕ → ℕ → ℕ → ℕ → ℕ
-rule_bits s at k r j = cond (in_rule (byte s (at + part_at)) (byte s (at + flags_at)) r j) (2 ^ k) 0
-
-unfoldable pub all_bits : List ℕ → ℕ → ℕ → ℕ → ℕ
-all_bits s at k j = cond (in_all (byte s (at + part_at)) (byte s (at + flags_at)) j) (2 ^ k) 0
+-- what state k of rule r, whose record stands at `at`, adds to each mask
+unfoldable pub state_bits : List ℕ → ℕ → ℕ → ℕ → ℕ → ℕ
+state_bits s at k r j =
+    let p = byte s (at + part_at) in
+    let f = byte s (at + flags_at) in
+    cond (in_rule p f r j || in_all p f j) (2 ^ k) 0

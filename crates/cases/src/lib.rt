@@ -2,30 +2,23 @@
 // what stands in each buffer afterwards are compared. It prints a line: ok or WRONG, operation, reply, place.
 #![tactic(auto)]
 
-ghost use Rattle.std.specs.Prelude.{◌≡◌, ◌+◌, ◌≤◌, length, take};
-ghost use Rattle.sets.specs.Workspace.{row_bytes, set_words};
-ghost use Rattle.stretches.specs.Buffers.{longest_tape};
-ghost use Rattle.cases.specs.Room.{Room, out_room, lines_room};
+ghost use Rattle.std.specs.Prelude.{◌≡◌, [], ◌∷◌, take};
 
 pub mod books; // books.rt: the books of the cases
+mod buffers; // buffers.rt: what an operation is lent
 pub mod expect; // expect.rt: what must stand in each buffer
 mod hold; // hold.rt: whole buffers compared
+mod lent; // lent.rt: how much of each buffer is lent
 
-use rewriter::{Accounted, LINE_WORDS, LONGEST_TAPE, Rewritten};
+use book::Checked;
+use buffers::Buffers;
+use expect::Tables;
+pub use lent::Lent;
+use rewriter::{Accounted, LONGEST_TAPE, Rewritten};
 use sets::Built;
 use std::io;
-
-// The room there is: some elements more than the workspace, the scratch of the longest tape, its output and its account need. Every
-// second symbol of that tape becomes two.
-const ROOM_ROWS: usize = sets::ROW_BYTES + 8;
-
-const ROOM_SETS: usize = sets::SET_WORDS + 8;
-
-const SCRATCH: usize = LONGEST_TAPE + 4;
-
-const OUT: usize = LONGEST_TAPE + LONGEST_TAPE / 2 + 6;
-
-const LINES: usize = LINE_WORDS * (LONGEST_TAPE / 2) + 10;
+use std::io::Write;
+use text::Text;
 
 // The bytes printed at once: any line that the cases have.
 const LINE: usize = 128;
@@ -33,92 +26,103 @@ const LINE: usize = 128;
 // The length of a tape that is refused for it.
 pub const TOO_LONG: usize = LONGEST_TAPE + 1;
 
+// The numbers that an operation answers: reply and place, and its counts in their order, 0 past the last.
+// The reply is as document 01 numbers it (see `Want::refused`).
+#[derive(Clone, Copy, PartialEq, Eq)]
+pub struct Answer {
+    pub reply: u8,
+    pub place: usize,
+    pub counts: [usize; 3],
+}
+
+// Each conversion names the fields of its own type, once.
+impl From<Checked> for Answer {
+    ghost from_gives = { λ r a. a ≡ record { reply = r.reply; place = r.place; counts = r.rules ∷ r.states ∷ r.arcs ∷ [] } };
+
+    fn from(r: Checked) -> Answer {
+        Answer {
+            reply: r.reply,
+            place: r.place,
+            counts: [r.rules, r.states, r.arcs],
+        }
+    }
+}
+
+impl From<Built> for Answer {
+    ghost from_gives = { λ r a. a ≡ record { reply = r.reply; place = r.place; counts = r.left ∷ r.right ∷ 0 ∷ [] } };
+
+    fn from(r: Built) -> Answer {
+        Answer {
+            reply: r.reply,
+            place: r.place,
+            counts: [r.left, r.right, 0],
+        }
+    }
+}
+
+impl From<Rewritten> for Answer {
+    ghost from_gives = { λ r a. a ≡ record { reply = r.reply; place = r.place; counts = r.length ∷ r.taken ∷ 0 ∷ [] } };
+
+    fn from(r: Rewritten) -> Answer {
+        Answer {
+            reply: r.reply,
+            place: r.place,
+            counts: [r.length, r.taken, 0],
+        }
+    }
+}
+
+impl From<Accounted> for Answer {
+    ghost from_gives = { λ r a. a ≡ record { reply = r.reply; place = r.place; counts = r.candidates ∷ 0 ∷ 0 ∷ [] } };
+
+    fn from(r: Accounted) -> Answer {
+        Answer {
+            reply: r.reply,
+            place: r.place,
+            counts: [r.candidates, 0, 0],
+        }
+    }
+}
+
 // What a case must answer; `tables` names what acceptance leaves in the workspace.
 #[derive(Clone, Copy)]
 pub struct Want {
-    pub tables: u8,
-    pub reply: u8,
-    pub place: usize,
-    pub first: usize,
-    pub second: usize,
-    pub third: usize,
+    pub tables: Tables,
+    pub answer: Answer,
 }
 
-// How many elements of each buffer are lent.
-#[derive(Clone, Copy)]
-pub struct Lent {
-    pub rows: usize,
-    pub sets: usize,
-    pub scratch: usize,
-    pub out: usize,
-    pub origins: usize,
-    pub lines: usize,
-}
-
-// What one buffer must hold: which it is, what stands in the workspace, and how far it is written: of the scratch up to and with the
-// tape's length, of the output and the origins the first elements, of an account the first lines.
-#[derive(Clone, Copy)]
-struct Expected {
-    buffer: u8,
-    tables: u8,
-    front: usize,
-}
-
-pub fn lend(
-    rows: usize,
-    sets: usize,
-    scratch: usize,
-    out: usize,
-    origins: usize,
-    lines: usize,
-) -> Lent
-    requires rows_bound { (rows ≤ row_bytes + 8) × (sets ≤ set_words + 8) × (scratch ≤ longest_tape + 4) }
-    requires out_le_out_room { (out ≤ out_room) × (origins ≤ out_room) × (lines ≤ lines_room) }
-    ensures room { Room result }
-    ensures value { result ≡ record { rows = rows; sets = sets; scratch = scratch; out = out; origins = origins; lines = lines } }
-{
-    Lent {
-        rows,
-        sets,
-        scratch,
-        out,
-        origins,
-        lines,
+impl Want {
+    pub fn accepted(tables: Tables, counts: [usize; 3]) -> Want
+        ensures { result ≡ record { tables = tables; answer = record { reply = 0; place = 0; counts = counts } } }
+    {
+        Want {
+            tables,
+            answer: Answer {
+                reply: 0,
+                place: 0,
+                counts,
+            },
+        }
     }
-}
 
-// More than any case needs.
-pub fn ample() -> Lent
-    ensures room { Room result }
-    ensures value { result ≡ record { rows = row_bytes + 8; sets = set_words + 8; scratch = longest_tape + 4; out = out_room; origins = out_room; lines = lines_room } }
-{
-    lend(ROOM_ROWS, ROOM_SETS, SCRATCH, OUT, OUT, LINES)
-}
-
-pub fn accepted(tables: u8, first: usize, second: usize, third: usize) -> Want
-    ensures { result ≡ record { tables = tables; reply = 0; place = 0; first = first; second = second; third = third } }
-{
-    Want {
-        tables,
-        reply: 0,
-        place: 0,
-        first,
-        second,
-        third,
+    // "Every refusal returns 0 for these." The reply is written as document 01 numbers it, and not by a `Reason` of crates/book: a test keeps its
+    // values, and a wrong number there would be wanted here too.
+    pub fn refused(tables: Tables, reply: u8, place: usize) -> Want
+        ensures { result ≡ record { tables = tables; answer = record { reply = reply; place = place; counts = 0 ∷ 0 ∷ 0 ∷ [] } } }
+    {
+        Want {
+            tables,
+            answer: Answer {
+                reply,
+                place,
+                counts: [0; 3],
+            },
+        }
     }
-}
 
-// "Every refusal returns 0 for these."
-pub fn refused(tables: u8, reply: u8, place: usize) -> Want
-    ensures { result ≡ record { tables = tables; reply = reply; place = place; first = 0; second = 0; third = 0 } }
-{
-    Want {
-        tables,
-        reply,
-        place,
-        first: 0,
-        second: 0,
-        third: 0,
+    // What stands in the workspace after that answer.
+    fn workspace(self) -> Tables {
+        self.tables.after(self.answer.reply)
     }
 }
 
@@ -136,235 +140,89 @@ pub fn report(
     rt: &impl Print,
     ok: bool,
     operation: &[u8],
-    want: Want,
+    want: Answer,
     note: &[u8],
 ) -> io::Result<()> {
-    let mut line = [0u8; LINE];
-    let mut at = if ok {
-        text::put_all(rt, &mut line, 0, b"ok ")?
+    let mut bytes = [0u8; LINE];
+    let mut line = Text::new(rt, &mut bytes);
+    line.put_all(if ok {
+        b"ok ".as_slice()
     } else {
-        text::put_all(rt, &mut line, 0, b"WRONG ")?
-    };
-    at = text::put_all(rt, &mut line, at, operation)?;
-    at = text::put(rt, &mut line, at, b' ')?;
-    at = text::put_number(rt, &mut line, at, want.reply as u64)?;
-    at = text::put(rt, &mut line, at, b' ')?;
-    at = text::put_number(rt, &mut line, at, want.place as u64)?;
-    at = text::put(rt, &mut line, at, b' ')?;
-    at = text::put_all(rt, &mut line, at, note)?;
-    at = text::put(rt, &mut line, at, b'\n')?;
-    text::flush(rt, &line, at)?;
-    Ok(())
+        b"WRONG ".as_slice()
+    })?;
+    line.put_all(operation)?;
+    write!(line, " {} {} ", want.reply, want.place)?;
+    line.put_all(note)?;
+    line.put(b'\n')?;
+    line.flush()
 }
 
-fn numbers_are(
-    want: Want,
-    reply: u8,
-    place: usize,
-    first: usize,
-    second: usize,
-    third: usize,
-) -> bool {
-    (reply == want.reply)
-        & (place == want.place)
-        & (first == want.first)
-        & (second == want.second)
-        & (third == want.third)
+// How much an operation is lent, what it must answer, and the note that is printed with it.
+#[derive(Clone, Copy)]
+pub struct Case<'a> {
+    pub lent: Lent,
+    pub want: Want,
+    pub note: &'a [u8],
 }
 
-pub fn check_case(rt: &impl Print, book: &[u8], want: Want, note: &[u8]) -> io::Result<()> {
-    let r = book::check(book);
-    report(
-        rt,
-        numbers_are(want, r.reply, r.place, r.rules, r.states, r.arcs),
-        b"CHECK",
-        want,
-        note,
-    )
-}
+// Each operation is lent its buffers here.
+// Tried: in a method of `Buffers` two fields would be lent as `&mut` behind one reference, and that proof does not close.
+impl Case<'_> {
+    pub fn check(&self, rt: &impl Print, book: &[u8]) -> io::Result<()> {
+        let answer = Answer::from(book::check(book));
+        self.compare(rt, b"CHECK", answer, true)
+    }
 
-fn built(rows: &[u8], sets: &[u64], tables: u8) -> bool {
-    let expected = Expected {
-        buffer: expect::ROWS,
-        tables,
-        front: 0,
-    };
-    hold::bytes_hold(rows, expected) & hold::sets_hold(sets, tables)
-}
+    pub fn build(&self, rt: &impl Print, book: &[u8]) -> io::Result<()> {
+        let mut buffers = Buffers::new();
+        let answer = Answer::from(sets::build(
+            book,
+            &mut buffers.rows[..self.lent.rows],
+            &mut buffers.sets[..self.lent.sets],
+        ));
+        let held = buffers.built(self.want.workspace());
+        self.compare(rt, b"BUILD", answer, held)
+    }
 
-fn passed(rows: &[u8], sets: &[u64], scratch: &[u8], tables: u8, n: usize) -> bool {
-    let expected = Expected {
-        buffer: expect::SCRATCH,
-        tables,
-        front: n,
-    };
-    built(rows, sets, tables) & hold::bytes_hold(scratch, expected)
-}
+    pub fn rewrite(&self, rt: &impl Print, book: &[u8], tape: &[u8]) -> io::Result<()> {
+        let mut buffers = Buffers::new();
+        let answer = Answer::from(rewriter::rewrite(
+            book,
+            tape,
+            &mut buffers.rows[..self.lent.rows],
+            &mut buffers.sets[..self.lent.sets],
+            &mut buffers.scratch[..self.lent.scratch],
+            &mut buffers.out[..self.lent.out],
+            &mut buffers.origins[..self.lent.origins],
+        ));
+        let held = buffers.passed(self.want.workspace(), tape.len())
+            & buffers.written(self.want.answer.counts[0]);
+        self.compare(rt, b"REWRITE", answer, held)
+    }
 
-fn written(out: &[u8], origins: &[u16], front: usize) -> bool {
-    let symbols = Expected {
-        buffer: expect::OUT,
-        tables: expect::UNTOUCHED,
-        front,
-    };
-    let positions = Expected {
-        buffer: expect::ORIGINS,
-        tables: expect::UNTOUCHED,
-        front,
-    };
-    hold::bytes_hold(out, symbols) & hold::words_hold(origins, positions)
-}
+    pub fn account(&self, rt: &impl Print, book: &[u8], tape: &[u8]) -> io::Result<()> {
+        let mut buffers = Buffers::new();
+        let answer = Answer::from(rewriter::account(
+            book,
+            tape,
+            &mut buffers.rows[..self.lent.rows],
+            &mut buffers.sets[..self.lent.sets],
+            &mut buffers.scratch[..self.lent.scratch],
+            &mut buffers.lines[..self.lent.lines],
+        ));
+        let held = buffers.passed(self.want.workspace(), tape.len())
+            & buffers.listed(self.want.answer.counts[0]);
+        self.compare(rt, b"ACCOUNT", answer, held)
+    }
 
-fn listed(lines: &[u16], front: usize) -> bool {
-    let expected = Expected {
-        buffer: expect::LINES,
-        tables: expect::UNTOUCHED,
-        front,
-    };
-    hold::words_hold(lines, expected)
-}
-
-// BUILD with as much of the workspace as is lent.
-fn build(book: &[u8], rows: &mut [u8], sets: &mut [u64], lent: Lent) -> Built
-    requires { (lent.rows ≤ length rows.old) × (lent.sets ≤ length sets.old) }
-{
-    let some_rows = lent.rows;
-    let some_sets = lent.sets;
-    sets::build(book, &mut rows[0..some_rows], &mut sets[0..some_sets])
-}
-
-pub fn build_case(
-    rt: &impl Print,
-    book: &[u8],
-    lent: Lent,
-    want: Want,
-    note: &[u8],
-) -> io::Result<()>
-    requires { Room lent }
-{
-    let mut rows = [expect::OLD; ROOM_ROWS];
-    let mut sets = [expect::OLD as u64; ROOM_SETS];
-    let r = build(book, &mut rows, &mut sets, lent);
-    let tables = expect::tables_after(want.reply, want.tables);
-    let ok = built(&rows, &sets, tables) & numbers_are(want, r.reply, r.place, r.left, r.right, 0);
-    report(rt, ok, b"BUILD", want, note)
-}
-
-// REWRITE with as much of each buffer as is lent.
-fn rewrite(
-    book: &[u8],
-    tape: &[u8],
-    rows: &mut [u8],
-    sets: &mut [u64],
-    scratch: &mut [u8],
-    out: &mut [u8],
-    origins: &mut [u16],
-    lent: Lent,
-) -> Rewritten
-    requires rows_in_bounds { (lent.rows ≤ length rows.old) × (lent.sets ≤ length sets.old) × (lent.scratch ≤ length scratch.old) }
-    requires out_in_bounds { (lent.out ≤ length out.old) × (lent.origins ≤ length origins.old) }
-{
-    let some_rows = lent.rows;
-    let some_sets = lent.sets;
-    let some_scratch = lent.scratch;
-    let some_out = lent.out;
-    let some_origins = lent.origins;
-    rewriter::rewrite(
-        book,
-        tape,
-        &mut rows[0..some_rows],
-        &mut sets[0..some_sets],
-        &mut scratch[0..some_scratch],
-        &mut out[0..some_out],
-        &mut origins[0..some_origins],
-    )
-}
-
-pub fn rewrite_case(
-    rt: &impl Print,
-    book: &[u8],
-    tape: &[u8],
-    lent: Lent,
-    want: Want,
-    note: &[u8],
-) -> io::Result<()>
-    requires { Room lent }
-{
-    let mut rows = [expect::OLD; ROOM_ROWS];
-    let mut sets = [expect::OLD as u64; ROOM_SETS];
-    let mut scratch = [expect::OLD; SCRATCH];
-    let mut out = [expect::OLD; OUT];
-    let mut origins = [expect::OLD as u16; OUT];
-    let r = rewrite(
-        book,
-        tape,
-        &mut rows,
-        &mut sets,
-        &mut scratch,
-        &mut out,
-        &mut origins,
-        lent,
-    );
-    let tables = expect::tables_after(want.reply, want.tables);
-    let ok = passed(&rows, &sets, &scratch, tables, tape.len())
-        & written(&out, &origins, want.first)
-        & numbers_are(want, r.reply, r.place, r.length, r.taken, 0);
-    report(rt, ok, b"REWRITE", want, note)
-}
-
-// ACCOUNT with as much of each buffer as is lent.
-fn account(
-    book: &[u8],
-    tape: &[u8],
-    rows: &mut [u8],
-    sets: &mut [u64],
-    scratch: &mut [u8],
-    lines: &mut [u16],
-    lent: Lent,
-) -> Accounted
-    requires rows_in_bounds { (lent.rows ≤ length rows.old) × (lent.sets ≤ length sets.old) × (lent.scratch ≤ length scratch.old) }
-    requires lines_in_bounds { lent.lines ≤ length lines.old }
-{
-    let some_rows = lent.rows;
-    let some_sets = lent.sets;
-    let some_scratch = lent.scratch;
-    let some_lines = lent.lines;
-    rewriter::account(
-        book,
-        tape,
-        &mut rows[0..some_rows],
-        &mut sets[0..some_sets],
-        &mut scratch[0..some_scratch],
-        &mut lines[0..some_lines],
-    )
-}
-
-pub fn account_case(
-    rt: &impl Print,
-    book: &[u8],
-    tape: &[u8],
-    lent: Lent,
-    want: Want,
-    note: &[u8],
-) -> io::Result<()>
-    requires { Room lent }
-{
-    let mut rows = [expect::OLD; ROOM_ROWS];
-    let mut sets = [expect::OLD as u64; ROOM_SETS];
-    let mut scratch = [expect::OLD; SCRATCH];
-    let mut lines = [expect::OLD as u16; LINES];
-    let r = account(
-        book,
-        tape,
-        &mut rows,
-        &mut sets,
-        &mut scratch,
-        &mut lines,
-        lent,
-    );
-    let tables = expect::tables_after(want.reply, want.tables);
-    let ok = passed(&rows, &sets, &scratch, tables, tape.len())
-        & listed(&lines, want.first)
-        & numbers_are(want, r.reply, r.place, r.candidates, 0, 0);
-    report(rt, ok, b"ACCOUNT", want, note)
+    fn compare(
+        &self,
+        rt: &impl Print,
+        operation: &[u8],
+        answer: Answer,
+        held: bool,
+    ) -> io::Result<()> {
+        let ok = held & (answer == self.want.answer);
+        report(rt, ok, operation, self.want.answer, self.note)
+    }
 }

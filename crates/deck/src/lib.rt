@@ -1,4 +1,5 @@
-// The C face: one function for each public operation, with that operation's contract. A slice passes as a pointer and its length in elements.
+// The C face: one function for each public operation, with that operation's contract. A slice passes as a pointer and its length in elements, and
+// an answer as numbers, the reply among them: C has no Result.
 #![tactic(auto)]
 
 ghost use Rattle.std.specs.Prelude.{◌≡◌};
@@ -21,6 +22,21 @@ pub struct CChecked {
     pub arcs: usize,
 }
 
+// Each conversion names the fields of its own type, once.
+impl From<book::Checked> for CChecked {
+    ghost from_gives = { λ r c. plain_checked c ≡ r };
+
+    fn from(r: book::Checked) -> CChecked {
+        CChecked {
+            reply: r.reply,
+            place: r.place,
+            rules: r.rules,
+            states: r.states,
+            arcs: r.arcs,
+        }
+    }
+}
+
 // BUILD's answer.
 #[repr(C)]
 #[derive(Clone, Copy)]
@@ -29,6 +45,19 @@ pub struct CBuilt {
     pub place: usize, // the place of CHECK's refusal, 0 with every other reply
     pub left: usize, // the counts of left and of right sets, at most 256 each; 0 with every reply but 0
     pub right: usize,
+}
+
+impl From<sets::Built> for CBuilt {
+    ghost from_gives = { λ r c. plain_built c ≡ r };
+
+    fn from(r: sets::Built) -> CBuilt {
+        CBuilt {
+            reply: r.reply,
+            place: r.place,
+            left: r.left,
+            right: r.right,
+        }
+    }
 }
 
 // REWRITE's answer.
@@ -41,6 +70,19 @@ pub struct CRewritten {
     pub taken: usize, // how many stretches were rewritten
 }
 
+impl From<rewriter::Rewritten> for CRewritten {
+    ghost from_gives = { λ r c. plain_rewritten c ≡ r };
+
+    fn from(r: rewriter::Rewritten) -> CRewritten {
+        CRewritten {
+            reply: r.reply,
+            place: r.place,
+            length: r.length,
+            taken: r.taken,
+        }
+    }
+}
+
 // ACCOUNT's answer.
 #[repr(C)]
 #[derive(Clone, Copy)]
@@ -48,6 +90,18 @@ pub struct CAccounted {
     pub reply: u8, // as REWRITE's
     pub place: usize, // as REWRITE's, with 15 the words that the account needs
     pub candidates: usize, // how many lines stand in front of the buffer; 0 with every reply but 0
+}
+
+impl From<rewriter::Accounted> for CAccounted {
+    ghost from_gives = { λ r c. plain_accounted c ≡ r };
+
+    fn from(r: rewriter::Accounted) -> CAccounted {
+        CAccounted {
+            reply: r.reply,
+            place: r.place,
+            candidates: r.candidates,
+        }
+    }
 }
 
 // SHOW's answer: the part of the tape from `start` up to and not including `end`; both 0 where the line shows none.
@@ -58,33 +112,32 @@ pub struct CStretch {
     pub end: usize,
 }
 
+impl From<rewriter::shown::Bounds> for CStretch {
+    ghost from_gives = { λ r c. plain_bounds c ≡ r };
+
+    fn from(r: rewriter::shown::Bounds) -> CStretch {
+        CStretch {
+            start: r.start,
+            end: r.end,
+        }
+    }
+}
+
 #[unsafe(no_mangle)]
 pub extern "C" fn qafrendi_check(book: &[u8]) -> CChecked
     ensures { plain_checked result ≡ check_def book.now }
 {
-    let r = book::check(book);
-    CChecked {
-        reply: r.reply,
-        place: r.place,
-        rules: r.rules,
-        states: r.states,
-        arcs: r.arcs,
-    }
+    CChecked::from(book::check(book))
 }
 
 #[unsafe(no_mangle)]
 pub extern "C" fn qafrendi_build(book: &[u8], rows: &mut [u8], sets: &mut [u64]) -> CBuilt
     ensures { build_leaves (plain_built result) rows.new sets.new ≡ build_def book.now rows.old sets.old }
 {
-    let r = sets::build(book, rows, sets);
-    CBuilt {
-        reply: r.reply,
-        place: r.place,
-        left: r.left,
-        right: r.right,
-    }
+    CBuilt::from(sets::build(book, rows, sets))
 }
 
+// As every export: the operation's own parameters, since C calls it.
 #[unsafe(no_mangle)]
 pub extern "C" fn qafrendi_rewrite(
     book: &[u8],
@@ -99,13 +152,7 @@ pub extern "C" fn qafrendi_rewrite(
         ≡ rewrite_def book.now tape.now rows.old
         sets.old scratch.old out.old origins.old }
 {
-    let r = rewriter::rewrite(book, tape, rows, sets, scratch, out, origins);
-    CRewritten {
-        reply: r.reply,
-        place: r.place,
-        length: r.length,
-        taken: r.taken,
-    }
+    CRewritten::from(rewriter::rewrite(book, tape, rows, sets, scratch, out, origins))
 }
 
 #[unsafe(no_mangle)]
@@ -120,12 +167,7 @@ pub extern "C" fn qafrendi_account(
     ensures { account_leaves (plain_accounted result) rows.new sets.new scratch.new lines.new
         ≡ account_def book.now tape.now rows.old sets.old scratch.old lines.old }
 {
-    let r = rewriter::account(book, tape, rows, sets, scratch, lines);
-    CAccounted {
-        reply: r.reply,
-        place: r.place,
-        candidates: r.candidates,
-    }
+    CAccounted::from(rewriter::account(book, tape, rows, sets, scratch, lines))
 }
 
 // A part of the tape cannot be handed to C as a reference, so C gets its bounds, by the function that SHOW cuts the tape with.
@@ -133,11 +175,7 @@ pub extern "C" fn qafrendi_account(
 pub extern "C" fn qafrendi_show(tape_length: usize, lines: &[u16], line: usize) -> CStretch
     ensures { plain_bounds result ≡ bounds_of tape_length lines.now line }
 {
-    let r = rewriter::shown::bounds_of(tape_length, lines, line);
-    CStretch {
-        start: r.start,
-        end: r.end,
-    }
+    CStretch::from(rewriter::shown::bounds_of(tape_length, lines, line))
 }
 
 // The lanes and the answer are the operation's own types, which have C's layout.

@@ -1,80 +1,74 @@
--- Before the lanes: each way out of `begin` is what the definition says; and what stands then: how many lanes are to be rewritten, and where there
--- is one a workspace as BUILD leaves it. Assumes nothing.
+-- Before the lanes: each way out of `begin` is what the definition says; and after it the whole call is what its definition says. Assumes nothing.
 use Prim.Native.Nat.{ℕ, ◌≤◌, ◌<◌}
-use mathlib.Core.Path.{◌≡◌, refl, sym, ap, ap₂, ◌∙◌}
+use mathlib.Core.Path.{◌≡◌, refl, sym, ap, subst, ◌∙◌}
 use mathlib.Core.Bool.{Bool, true, false, cond}
 use mathlib.Core.List.{List}
-use native.Mathlib.Omega.{arith}
-use native.Mathlib.Decide.{ℕ_discrete}
 use lib.Dec.{ltb, eqb}
 use lib.ListN.{length}
 use borrow.Author.Tests.{eq-eqb, ne_eqb, lt-ltb, le-ltb}
-use Rattle.book.specs.Reading.{check_def, book_of}
+use Rattle.book.specs.Reading.{check_def}
 use Rattle.book.specs.declared.Checked.{Checked}
 use Rattle.sets.specs.Workspace.{AfterBuild, refusal, build_leaves, build_def}
 use Rattle.sets.specs.declared.Built.{Built}
 use Rattle.sets.specs.Tables.{AsBuilt}
-use Rattle.sets.proofs.Tables.{way_refused, buildable, as_built}
-use Rattle.rewriter.proofs.Whole.{rules_counted}
-use Rattle.heat.specs.declared.Begun.{Begun}
-use Rattle.heat.specs.Heats.{most_lanes, heated}
-use Rattle.heat.specs.Begins.{AfterBegin, begins, refused, begin_def}
-
--- CHECK's reply
-pub checked_is : (book : List ℕ) (k : Checked) → k ≡ check_def book → k.reply ≡ 0 → (check_def book).reply ≡ 0
-checked_is book k is z = sym (ap (λ (x : Checked). x.reply) is) ∙ z
+use Rattle.sets.proofs.Tables.{way_refused, as_built}
+use Rattle.heat.specs.declared.Lane.{Lane}
+use Rattle.heat.specs.Lanes.{Leaving, leaving, AfterLanes, lanes_leave, lane_def, in_turn}
+use Rattle.heat.specs.Heats.{most_lanes, heated, AfterHeat, heat_leaves, after_build, heat_def}
+use Rattle.heat.specs.Begins.{AfterBegin, begins, begins_built, begin_def}
 
 module _ (book : List ℕ) (n : ℕ) (R S : List ℕ) where
-  pub begin_many : most_lanes < n → (r : Begun) → r ≡ refused 16 0 → begins r R S ≡ begin_def book n R S
+  pub begin_many : most_lanes < n → begins (heated 16 0) R S ≡ begin_def book n R S
   unfolding begin_def
-  begin_many h r e = simp (lt-ltb _ _ h) (ap (λ (x : Begun). begins x R S) e)
+  begin_many h = simp (lt-ltb _ _ h)
 
   module _ (few : n ≤ most_lanes) where
-    -- what BUILD refuses
-    pub begin_refused : (b : Built) (R' S' : List ℕ) → build_leaves b R' S' ≡ build_def book R S → (b.reply ≡ 0 → ⊥) → (r : Begun) → r
-        ≡ refused b.reply b.place → begins r R' S' ≡ begin_def book n R S
+    -- what BUILD answers
+    pub begin_built : (b : Built) (R' S' : List ℕ) → build_leaves b R' S' ≡ build_def book R S → begins (heated b.reply b.place) R' S' ≡ begin_def book n R S
     unfolding begin_def
-    begin_refused b R' S' is h r e =
-        simp (le-ltb _ _ few, ne_eqb _ _ (λ z. h (ap (λ (x : AfterBuild). x.answer.reply) is ∙ z)))
-        (ap (λ (x : Begun). begins x R' S') e ∙ ap (λ (x : AfterBuild). begins (refused x.answer.reply x.answer.place) x.rows x.sets) is)
+    begin_built b R' S' is = simp (le-ltb _ _ few) (ap begins_built is)
 
     -- what CHECK refuses, BUILD does
-    pub begin_unchecked : (k : Checked) → k ≡ check_def book → (k.reply ≡ 0 → ⊥) → (r : Begun) → r ≡ refused k.reply k.place
-        → begins r R S ≡ begin_def book n R S
-    begin_unchecked k is h r e =
+    pub begin_unchecked : (k : Checked) → k ≡ check_def book → (k.reply ≡ 0 → ⊥) → begins (heated k.reply k.place) R S ≡ begin_def book n R S
+    begin_unchecked k is h =
         let b = refusal k.reply k.place in
-        begin_refused b R S
-        (way_refused book R S b (λ z. h (ap (λ (x : Checked). x.reply) is ∙ z)) (ap (λ (x : Checked). refusal x.reply x.place) is)) h r e
+        begin_built b R S
+        (way_refused book R S b (λ z. h (ap (λ (x : Checked). x.reply) is ∙ z)) (ap (λ (x : Checked). refusal x.reply x.place) is))
 
-    pub begin_done : (b : Built) (R' S' : List ℕ) → build_leaves b R' S' ≡ build_def book R S → b.reply ≡ 0 → (rules : ℕ) → rules ≡ (check_def book).rules
-        → begins (record { heated = heated 0 0; lanes = n; rules = rules }) R' S' ≡ begin_def book n R S
-    unfolding begin_def
-    begin_done b R' S' is z rules e =
-        simp (le-ltb _ _ few, eq-eqb _ _ (sym (ap (λ (x : AfterBuild). x.answer.reply) is) ∙ z))
-        (ap₂ (λ (k : ℕ) (x : AfterBuild). begins (record { heated = heated 0 0; lanes = n; rules = k }) x.rows x.sets) e is)
+  -- what stands where nothing is refused
+  pub begin_as_built : (b : Built) (R' S' : List ℕ) → build_leaves b R' S' ≡ build_def book R S → b.reply ≡ 0 → AsBuilt book R' S'
+  begin_as_built b R' S' is z =
+      let e : AfterBuild → Type 0 = λ x. AsBuilt book x.rows x.sets in
+      subst e (sym is) (as_built book R S (sym (ap (λ (x : AfterBuild). x.answer.reply) is) ∙ z))
 
--- ---- what stands then
-pub record Started (book : List ℕ) (n : ℕ) (R S : List ℕ) (d : AfterBegin) : Type 0 where
-  pub count : d.begun.lanes ≤ n
-  pub ready : 0 < d.begun.lanes → AsBuilt book d.rows d.sets × (d.begun.rules ≡ length (book_of book).words)
+-- ---- the whole call, by what `begin` left: refused, or the lanes in turn
+module _ (book tapes : List ℕ) (xs : List Lane) (R S X O G : List ℕ) where
+  abbrev pub lanes_from : Leaving
+  lanes_from = leaving 0 X O G
 
-started_cond : (book : List ℕ) (n : ℕ) (R S : List ℕ) (c : Bool) (x y : AfterBegin) → (c ≡ true → Started book n R S x) → (c ≡ false → Started book n R S y)
-    → Started book n R S (cond c x y)
-started_cond book n R S true x y p q = p refl
-started_cond book n R S false x y p q = q refl
+  abbrev told : AfterBegin → AfterHeat
+  told d =
+      let r = cond (eqb d.answer.reply 0) (in_turn (lane_def book tapes d.rows d.sets) xs lanes_from) (lanes_leave xs lanes_from) in
+      heat_leaves d.answer r.lanes d.rows d.sets r.left.scratch r.left.out r.left.origins
 
-module _ (book : List ℕ) (n : ℕ) (R S : List ℕ) where
-  pub started : Started book n R S (begin_def book n R S)
-  unfolding begin_def
-  started =
-      started_cond book n R S (ltb most_lanes n) _ _ (λ _. record { count = omega arith; ready = λ h. absurd (omega arith) }) (λ _.
-      by (ℕ_discrete (build_def book R S).answer.reply 0))
+  begun_told : told (begin_def book (length xs) R S) ≡ heat_def book tapes xs R S X O G
+  unfolding begin_def heat_def
+  begun_told = by (ltb most_lanes (length xs))
     where
-      built : AfterBuild → AfterBegin
-      built b = cond (eqb b.answer.reply 0) (begins (record { heated = heated 0 0; lanes = n; rules = (check_def book).rules }) b.rows b.sets)
-          (begins (refused b.answer.reply b.answer.place) b.rows b.sets)
+      by : (c : Bool) → told (cond c (begins (heated 16 0) R S) (begins_built (build_def book R S)))
+          ≡ cond c (heat_leaves (heated 16 0) xs R S X O G) (after_build book tapes xs X O G (build_def book R S))
+      by true = refl
+      by false = refl
 
-      by : Dec ((build_def book R S).answer.reply ≡ 0) → Started book n R S (built (build_def book R S))
-      by (no h) = simp (ne_eqb _ _ h) (record { count = omega arith; ready = λ k. absurd (omega arith) })
-      by (yes z) = simp (eq-eqb _ _ z)
-          (record { count = omega arith; ready = λ k. (as_built book R S z, rules_counted book (check_def book).rules (buildable book R S z).accepted refl) })
+  module _ (d : AfterBegin) (is : d ≡ begin_def book (length xs) R S) where
+    pub heat_stopped : (d.answer.reply ≡ 0 → ⊥) → heat_leaves d.answer xs d.rows d.sets X O G ≡ heat_def book tapes xs R S X O G
+    heat_stopped h =
+        let e : heat_leaves d.answer xs d.rows d.sets X O G ≡ told d = simp (ne_eqb _ _ h) in
+        e ∙ ap told is ∙ begun_told
+
+    pub heat_ran : d.answer.reply ≡ 0 → (r : AfterLanes) → r ≡ in_turn (lane_def book tapes d.rows d.sets) xs lanes_from
+        → heat_leaves d.answer r.lanes d.rows d.sets r.left.scratch r.left.out r.left.origins ≡ heat_def book tapes xs R S X O G
+    heat_ran z r e =
+        let t : heat_leaves d.answer r.lanes d.rows d.sets r.left.scratch r.left.out r.left.origins ≡ told d =
+        simp (eq-eqb _ _ z) (ap (λ (y : AfterLanes). heat_leaves d.answer y.lanes d.rows d.sets y.left.scratch y.left.out y.left.origins) e) in
+        t ∙ ap told is ∙ begun_told

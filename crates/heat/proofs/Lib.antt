@@ -3,7 +3,6 @@ pub mod Begins
 pub mod Room
 pub mod Places
 pub mod Turns
--- A slice that is lent on and comes back, for the walk of `heat`.
 -- The heat beside calls of REWRITE, beside a heat with one tape changed, and one lane of it.
 pub mod Alone
 pub mod Change

@@ -1,8 +1,8 @@
 -- One lane of a heat that replies 0, with the lanes pre before it and the lanes post after it: its record stands among the others, its output right
 -- after theirs, and both stay to the end. Assumes nothing.
 use Prim.Native.Nat.{ℕ, ◌+◌, ◌≤◌}
-use mathlib.Core.Path.{◌≡◌, sym, ap, ◌∙◌}
-use mathlib.Core.List.{List, ◌∷◌, ◌++◌}
+use mathlib.Core.Path.{◌≡◌, refl, sym, ap, ◌∙◌}
+use mathlib.Core.List.{List, [], ◌∷◌, ◌++◌}
 use native.Mathlib.Omega.{arith}
 use lib.ListN.{length, take, drop, get_or, length-append, length-take}
 use lib.Seq.{take_at, drop_at, take-add, length-take-le}
@@ -13,7 +13,6 @@ use Rattle.heat.specs.declared.Lane.{Lane}
 use Rattle.heat.specs.Lanes.{Leaving, leaving, AfterLane, lane_def, AfterLanes, lanes_leave, in_turn}
 use Rattle.heat.specs.Heats.{most_lanes, heated, AfterHeat, after_lanes, heat_def}
 use Rattle.heat.specs.Apart.{no_lane, used}
-use Rattle.heat.proofs.Turns.{get_or_mid}
 use Rattle.heat.proofs.Places.{LaneKeeps, lane_keeps, LanesKeep, lanes_keep}
 use Rattle.heat.proofs.Change.{turn_append}
 
@@ -26,6 +25,11 @@ part_kept u n x a b c e h p q =
     part_front u n x h ∙ ap (drop u) e
     ∙ sym (part_front u n (a ++ (b ++ c)) (let k = length-append a (b ++ c) in omega arith))
     ∙ ap (take n) (drop_at a (b ++ c) u p) ∙ take_at b c n q
+
+-- the record behind those before it
+get_or_mid : (pre : List Lane) (l : Lane) (ls : List Lane) → get_or (pre ++ (l ∷ ls)) (length pre) no_lane ≡ l
+get_or_mid [] l ls = refl
+get_or_mid (p ∷ pre) l ls = get_or_mid pre l ls
 
 module _ (book tapes R S X O G : List ℕ) where
   -- a lane, by the workspace that BUILD left

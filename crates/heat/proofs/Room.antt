@@ -75,22 +75,22 @@ module _ (book tapes rows sets : List ℕ) (l : Lane) (s : Leaving) where
   lane_outside h a e = simp (lt-ltb _ _ h) (ap (λ (x : Lane). lane_leaves x s) e)
 
   -- what REWRITE is given, as the parts come out
-  abbrev given : ℕ → AfterRewrite
-  given end = rewrite_def book (take (end - l.start) (drop l.start tapes)) rows sets s.scratch
+  abbrev given : List ℕ → AfterRewrite
+  given t = rewrite_def book t rows sets s.scratch
       (take (length s.out - s.used) (drop s.used s.out)) (take (length s.origins - s.used) (drop s.used s.origins))
 
-  given_is : given (l.start + l.length) ≡ alone
-  given_is = let e : (l.start + l.length) - l.start ≡ l.length = omega arith in rw (e, rest s.used s.out, rest s.used s.origins)
+  module _ (t : List ℕ) (own : t ≡ tape_of tapes l) (r : Rewritten) (X O G : List ℕ) (is : rewrite_leaves r rows sets X O G ≡ given t) where
+    given_is : given t ≡ alone
+    given_is = rw (own, rest s.used s.out, rest s.used s.origins)
 
-  module _ (r : Rewritten) (X O G : List ℕ) (is : rewrite_leaves r rows sets X O G ≡ given (l.start + l.length)) where
     pub used_fits : s.used ≤ length s.out → s.used + r.length ≤ length s.out
     used_fits h = let k : r.length ≡ alone.answer.length = ap (λ (x : AfterRewrite). x.answer.length) (is ∙ given_is) in omega (arith, fits_out h)
 
     pub lane_inside : l.start + l.length ≤ length tapes → (a : Lane) → a ≡ answered l r.reply r.place r.length r.taken
-        → lane_leaves a (leaving (s.used + r.length) X (put_mid s.used (length s.out - s.used) s.out O)
+        → lane_leaves a (leaving (s.used + a.out) X (put_mid s.used (length s.out - s.used) s.out O)
         (put_mid s.used (length s.origins - s.used) s.origins G)) ≡ lane_def book tapes rows sets l s
     unfolding lane_def
     lane_inside h a e =
         simp (le-ltb _ _ h, back)
-        (ap (λ (x : Lane). lane_leaves x (leaving (s.used + r.length) X (take s.used s.out ++ O) (take s.used s.origins ++ G))) e
+        (ap (λ (x : Lane). lane_leaves x (leaving (s.used + x.out) X (take s.used s.out ++ O) (take s.used s.origins ++ G))) e
         ∙ ap (inside l s) (is ∙ given_is))

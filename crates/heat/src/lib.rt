@@ -1,17 +1,21 @@
 // All lanes of a heat: one book, and up to ten tapes in one common buffer.
 #![tactic(auto)]
 
-ghost use Rattle.std.specs.Prelude.{◌≡◌, ◌+◌, ◌≤◌, ltb, length};
+ghost use Rattle.std.specs.Prelude.{◌≡◌, ◌+◌, ◌<◌, ◌≤◌, length, MatchOption, IfOk};
 ghost use Rattle.book.specs.Reading.{book_of};
 ghost use Rattle.sets.specs.Tables.{AsBuilt};
-ghost use Rattle.heat.specs.Lanes.{answered, leaving, lane_leaves, lane_def};
+ghost use Rattle.heat.specs.Lanes.{tape_of, leaving, lane_leaves, lane_def};
 ghost use Rattle.heat.specs.Heats.{heat_leaves, heat_def};
-ghost use Rattle.heat.specs.Begins.{begins, refused, begin_def};
+ghost use Rattle.heat.specs.Begins.{heated_of, answered_by, begins, begin_def};
+
+use book::replies::{Reason, Refusal};
+use rewriter::{Rewritten, Size};
 
 // "up to ten tapes"
 pub const MOST_LANES: usize = 10;
 
-// One lane. The caller writes where its tape stands, which is never changed; the other fields are what the lane gets back.
+// One lane, with the fields that C has: numbers, and no Result. The caller writes where its tape stands, which is never changed; the other fields are
+// what the lane gets back.
 #[repr(C)]
 #[derive(Clone, Copy)]
 pub struct Lane {
@@ -28,7 +32,28 @@ pub struct Lane {
     pub place: usize,
 }
 
-// The answer of the whole call.
+impl Lane {
+    // The lane's stretch of the common buffer, unless it leaves it. No sum is made of the two numbers: it could wrap.
+    fn tape<'a>(&self, tapes: &'a [u8]) -> Option<&'a [u8]>
+        ensures { MatchOption result (length tapes.now < self.now.start + self.now.length)
+            (λ t. (self.now.start + self.now.length ≤ length tapes.now) × (t.now ≡ tape_of tapes.now self.now)) }
+    {
+        tapes.get(self.start..)?.get(..self.length)
+    }
+
+    // What a lane gets back.
+    fn answer(&mut self, done: Result<Size, Refusal>)
+        ensures { self.new ≡ answered_by self.old done }
+    {
+        let answer = Rewritten::from(done);
+        self.out = answer.length;
+        self.taken = answer.taken;
+        self.reply = answer.reply;
+        self.place = answer.place;
+    }
+}
+
+// The answer of the whole call, as C has it.
 #[repr(C)]
 #[derive(Clone, Copy)]
 pub struct Heated {
@@ -38,120 +63,66 @@ pub struct Heated {
     pub place: usize,
 }
 
-// What is known before the lanes.
-#[derive(Clone, Copy)]
-pub struct Begun {
-    pub heated: Heated,
-    // How many lanes are to be rewritten: all of them, or none of a call that is refused.
-    pub lanes: usize,
-    // How many rules the book has, for the passes; 0 of a call that is refused.
-    pub rules: usize,
-}
+impl From<Result<(), Refusal>> for Heated {
+    ghost from_gives = { λ r h. h ≡ heated_of r };
 
-// What one lane leaves.
-#[derive(Clone, Copy)]
-pub struct Ran {
-    pub lane: Lane,
-    // The room that is used then: the next lane writes from there on.
-    pub used: usize,
-}
-
-// What a lane gets back.
-fn answered(lane: Lane, reply: u8, place: usize, out: usize, taken: usize) -> Lane
-    ensures { result ≡ answered lane reply place out taken }
-{
-    Lane {
-        start: lane.start,
-        length: lane.length,
-        out,
-        taken,
-        reply,
-        place,
+    fn from(r: Result<(), Refusal>) -> Heated {
+        match r {
+            Ok(_) => Heated { reply: 0, place: 0 },
+            Err(refusal) => Heated {
+                reply: refusal.reason.number(),
+                place: refusal.place,
+            },
+        }
     }
 }
 
-// A refusal of the whole call: no lane is rewritten.
-fn refused(reply: u8, place: usize) -> Begun
-    ensures { result ≡ refused reply place }
-{
-    Begun {
-        heated: Heated { reply, place },
-        lanes: 0,
-        rules: 0,
-    }
-}
-
-// Before the lanes: 16, then BUILD, once for all of them; CHECK is called here, for it counts the rules.
-fn begin(book: &[u8], lanes: usize, rows: &mut [u8], sets: &mut [u64]) -> Begun
-    ensures { begins result rows.new sets.new ≡ begin_def book.now lanes rows.old sets.old }
+// Before the lanes: 16, then BUILD, once for all of them. The book is read here, for that counts the rules that each lane's passes are lent.
+fn begin(book: &[u8], lanes: usize, rows: &mut [u8], sets: &mut [u64]) -> Result<usize, Refusal>
+    ensures begun { begins (heated_of result) rows.new sets.new ≡ begin_def book.now lanes rows.old sets.old }
+    ensures built { IfOk result (λ rules. AsBuilt book.now rows.new sets.new × (rules ≡ length (book_of book.now).words)) }
 {
     if MOST_LANES < lanes {
-        return refused(16, 0);
+        return Err(Reason::ManyLanes.at(0));
     }
-    let checked = book::check(book);
-    if checked.reply != 0 {
-        return refused(checked.reply, checked.place);
-    }
+    let counts = book::read(book)?;
     if rows.len() < sets::ROW_BYTES {
-        return refused(11, 0);
+        return Err(Reason::ShortWorkspace.at(0));
     }
     if sets.len() < sets::SET_WORDS {
-        return refused(11, 0);
+        return Err(Reason::ShortWorkspace.at(0));
     }
-    let built = sets::number_book(book, rows, sets);
-    if built.reply != 0 {
-        return refused(built.reply, built.place);
-    }
-    Begun {
-        heated: Heated { reply: 0, place: 0 },
-        lanes,
-        rules: checked.rules,
-    }
+    sets::number_book(book, rows, sets)?;
+    Ok(counts.rules)
 }
 
-// Whether a stretch leaves a buffer of n symbols. No sum is made of the two numbers before it is known to be small: it could wrap.
-fn leaves(n: usize, start: usize, length: usize) -> bool
-    ensures { result ≡ ltb n (start + length) }
-{
-    if n < start {
-        return true;
-    }
-    n - start < length
-}
-
-// One lane after the build: 17, or its tape's REWRITE into the outputs from the room used so far on. The workspace is only read; it is lent as
-// `heat` has it.
+// One lane after the build: 17, or its tape's REWRITE into the outputs from the room used so far on. The room that is used then. Workspace, scratch and
+// outputs are slices of their own, as documents 01 and 02 have them lent.
 fn run_lane(
     book: &[u8],
     tapes: &[u8],
-    lane: Lane,
+    lane: &mut Lane,
     from: usize,
     rules: usize,
-    rows: &mut [u8],
-    sets: &mut [u64],
+    rows: &[u8],
+    sets: &[u64],
     scratch: &mut [u8],
     out: &mut [u8],
     origins: &mut [u16],
-) -> Ran
-    requires { (from ≤ length out.old) × (from ≤ length origins.old) × AsBuilt book.now rows.old sets.old
-        × (rules ≡ length (book_of book.now).words) }
-    ensures origins_after { lane_leaves result.lane (leaving result.used scratch.new out.new origins.new)
-        ≡ lane_def book.now tapes.now rows.old sets.old lane
+) -> usize
+    requires room { (from ≤ length out.old) × (from ≤ length origins.old) }
+    requires built { AsBuilt book.now rows.now sets.now × (rules ≡ length (book_of book.now).words) }
+    ensures { lane_leaves lane.new (leaving result scratch.new out.new origins.new)
+        ≡ lane_def book.now tapes.now rows.now sets.now lane.old
         (leaving from scratch.old out.old origins.old) }
-    ensures rows_unchanged { (rows.new ≡ rows.old) × (sets.new ≡ sets.old) }
 {
-    let start = lane.start;
-    let length = lane.length;
-    if leaves(tapes.len(), start, length) {
-        return Ran {
-            lane: answered(lane, 17, 0, 0, 0),
-            used: from,
-        };
-    }
-    let end = start + length;
+    let Some(tape) = lane.tape(tapes) else {
+        lane.answer(Err(Reason::Outside.at(0)));
+        return from;
+    };
     let done = rewriter::rewrite_built(
         book,
-        &tapes[start..end],
+        tape,
         rules,
         rows,
         sets,
@@ -159,11 +130,8 @@ fn run_lane(
         &mut out[from..],
         &mut origins[from..],
     );
-    let after = from + done.length;
-    Ran {
-        lane: answered(lane, done.reply, done.place, done.length, done.taken),
-        used: after,
-    }
+    lane.answer(done);
+    from + lane.out
 }
 
 // Document 02's HEAT: any book, common buffer, lanes and buffers get their replies.
@@ -181,28 +149,30 @@ pub fn heat(
         ≡ heat_def book.now tapes.now lanes.old rows.old sets.old
         scratch.old out.old origins.old }
 {
-    let begun = begin(book, lanes.len(), &mut *rows, &mut *sets);
-    let count = begun.lanes;
-    let rules = begun.rules;
-    let mut i: usize = 0;
+    Heated::from(try_heat(book, tapes, lanes, rows, sets, scratch, out, origins))
+}
+
+// HEAT as a result: that the lanes have their replies, or the refusal of the whole call.
+pub fn try_heat(
+    book: &[u8],
+    tapes: &[u8],
+    lanes: &mut [Lane],
+    rows: &mut [u8],
+    sets: &mut [u64],
+    scratch: &mut [u8],
+    out: &mut [u8],
+    origins: &mut [u16],
+) -> Result<(), Refusal>
+    ensures { heat_leaves (heated_of result) lanes.new rows.new sets.new scratch.new out.new origins.new
+        ≡ heat_def book.now tapes.now lanes.old rows.old sets.old
+        scratch.old out.old origins.old }
+{
+    let rules = begin(book, lanes.len(), rows, sets)?;
     let mut used: usize = 0;
-    while i < count {
-        let lane = lanes[i];
-        let ran = run_lane(
-            book,
-            tapes,
-            lane,
-            used,
-            rules,
-            &mut *rows,
-            &mut *sets,
-            &mut *scratch,
-            &mut *out,
-            &mut *origins,
+    for lane in lanes.iter_mut() {
+        used = run_lane(
+            book, tapes, lane, used, rules, rows, sets, scratch, out, origins,
         );
-        lanes[i] = ran.lane;
-        used = ran.used;
-        i = i + 1;
     }
-    begun.heated
+    Ok(())
 }

@@ -1,31 +1,40 @@
 -- Counting the candidates: of an end, of a start, of a tape. What is counted and what is still to come make the whole. Assumes nothing.
-use Prim.Native.Nat.{ℕ, suc, ◌+◌, ◌-◌, ◌*◌, ◌≤◌, ◌<◌}
-use mathlib.Core.Path.{◌≡◌, sym, ap, ◌∙◌}
+use Prim.Native.Nat.{ℕ, zero, suc, ◌+◌, ◌-◌, ◌*◌, ◌≤◌, ◌<◌}
+use mathlib.Core.Path.{◌≡◌, sym, ap, subst, ◌∙◌}
 use mathlib.Core.Bool.{Bool, true, false, cond}
 use mathlib.Core.List.{List}
 use native.Mathlib.Omega.{arith}
 use native.Mathlib.Numerals.{add-one}
-use native.Mathlib.Nat.{add-zero}
+use native.Mathlib.Nat.{add-zero, zero-add}
 use lib.Dec.{T}
-use lib.ListN.{length, get_or}
+use lib.ListN.{length}
+use Rattle.std.proofs.Common.{Bor, Some}
+use Rattle.std.specs.List.{fold, count_by, range_with_len}
+use Rattle.std.specs.Iterator.Runs.{Run}
+use Rattle.std.proofs.iter.Yields.{nat_range_steps}
+use Rattle.std.proofs.iter.runs.Sources.{range_runs}
+use Rattle.std.proofs.lemmas.List.{same_lists}
+use Rattle.std.proofs.lemmas.List.FromFn.{get_or-range_with_len, length-range_with_len}
 use Rattle.book.specs.Format.{most_rules}
 use Rattle.book.specs.Reading.{Book, book_of}
 use Rattle.book.specs.Language.{Rules, rules, rules_in}
 use Rattle.book.specs.Sound.{Sound}
-use Rattle.sets.specs.Sets.{left_at}
-use Rattle.sets.specs.Focus.{focus_first, focus_next}
-use Rattle.sets.specs.Tables.{left_entry, right_set}
 use Rattle.stretches.specs.Candidates.{candidate}
 use Rattle.stretches.specs.Account.{account}
 use Rattle.stretches.specs.Sentences.{sum}
 use Rattle.stretches.specs.Buffers.{longest_tape}
-use Rattle.stretches.specs.Ready.{Ready, RightSets}
 use Rattle.stretches.specs.Position.{hits}
 use Rattle.lines.specs.Lines.{hit_count, end_count, start_count}
 use Rattle.stretches.proofs.Lists.{miss}
 use Rattle.stretches.proofs.Counts.{sum_same, sum_none, sum_most, account_length}
-use Rattle.stretches.proofs.Lefts.{LeftNumber, left_start, left_turn}
-use Rattle.stretches.proofs.Pruned.{Pruned, pruned_start, pruned_turn, pruned_hits, pruned_dead}
+use Rattle.stretches.specs.declared.pass.Pass.{Pass}
+use Rattle.lines.specs.Ends.{NoneFrom}
+use Rattle.lines.specs.Coming.{bytes, rules_for, tape_of, NextStart, NextEnd}
+use Rattle.lines.specs.declared.ends.Start.{Start}
+use Rattle.lines.specs.declared.ends.End.{End}
+use Rattle.lines.specs.declared.ends.Starts.{Starts}
+use Rattle.lines.specs.declared.ends.Ends.{Ends}
+use Rattle.lines.proofs.Onward.{end_hits}
 
 -- n counts f below i; from i on up to m it is still to be counted
 pub record Tally (f : ℕ → ℕ) (m whole i n : ℕ) : Type 0 where
@@ -55,35 +64,37 @@ at_most_one : (c : Bool) → cond c 1 0 ≤ 1
 at_most_one true = omega arith
 at_most_one false = omega arith
 
+-- how many numbers from a on pass, n of them
+filtered : (p : ℕ → Bool) (n a k : ℕ) → fold (λ (s x : ℕ). s + cond (p x) 1 0) k (range_with_len a n) ≡ k + sum (λ (r : ℕ). cond (p r) 1 0) a n
+filtered p zero a k = sym (add-zero k)
+filtered p (suc n) a k =
+    omega (arith, filtered p n (a + 1) (k + cond (p a) 1 0), ap (λ (i : ℕ). sum (λ (r : ℕ). cond (p r) 1 0) i n) (add-one a))
+
+some_one : {x y : ℕ} → Some x ≡ Some y → x ≡ y
+some_one e = cc e
+
+-- the items of a whole range
+pub range_items : (q : Run nat_range_steps) (n : ℕ) → q.whole ≡ true → q.from.start ≡ 0 → q.from.end ≡ n → q.items ≡ range_with_len 0 n
+range_items q n w e f =
+    let up = range_runs q q.seen in
+    let len : q.len ≡ n = omega (arith, up.1 w, e, f) in
+    same_lists _ _ (omega (arith, q.long, len, length-range_with_len 0 n))
+    (λ k d h. let i : k < q.len = omega (arith, q.long) in
+    some_one (sym (q.reads k d i) ∙ up.3 k i) ∙ ap (λ a. a + k) e ∙ sym (get_or-range_with_len 0 n k d (omega arith)))
+
 -- ---- one end
 
 module _ (b : Book) (X R : ℕ) where
   abbrev pub passes : ℕ → ℕ
   passes r = cond (hits b X R r) 1 0
 
-  pub hit_start : Tally passes (length b.words) (hit_count b X R) 0 0
-  unfolding hit_count
-  hit_start =
-      let z : length b.words - 0 ≡ length b.words = omega arith in
-      record { within = omega arith; count = omega (arith, ap (sum passes 0) z) }
-
   pub hit_none : ((r : ℕ) → hits b X R r ≡ false) → 0 ≡ hit_count b X R
   unfolding hit_count
   hit_none h = sym (sum_none passes 0 (length b.words) (λ r i j. ap (λ (c : Bool). cond c 1 0) (h r)))
 
-  module _ (r n : ℕ) (was : Tally passes (length b.words) (hit_count b X R) r n) (inside : r < length b.words) where
-    turn : (c : Bool) → hits b X R r ≡ c → Tally passes (length b.words) (hit_count b X R) (r + 1) (n + cond c 1 0)
-    turn c e = rw add-one (tally_turn passes (length b.words) (hit_count b X R) r n was inside (cond c 1 0) (ap (λ (d : Bool). cond d 1 0) (sym e)))
-
-    pub hit_yes : (hit : Bool) → hit ≡ hits b X R r → hit ≡ true → Tally passes (length b.words) (hit_count b X R) (r + 1) (n + 1)
-    hit_yes hit e f = turn true (sym e ∙ f)
-
-    pub hit_no : (hit : Bool) → hit ≡ hits b X R r → hit ≡ false → Tally passes (length b.words) (hit_count b X R) (r + 1) n
-    hit_no hit e f = rw add-zero at (turn false (sym e ∙ f))
-
-  pub hit_most : hit_count b X R ≤ length b.words
-  unfolding hit_count
-  hit_most = let g = sum_most passes 1 (λ r. at_most_one (hits b X R r)) 0 (length b.words) in omega arith
+  pub hit_filter : (n : ℕ) → n ≡ length b.words → count_by (hits b X R) (range_with_len 0 n) ≡ hit_count b X R
+  unfolding hit_count hits
+  hit_filter n e = filtered (hits b X R) n 0 0 ∙ zero-add _ ∙ ap (sum passes 0) e
 
 -- ---- one start
 
@@ -96,92 +107,106 @@ module _ (b : Rules) (t : List ℕ) where
   unfolding start_count
   start_begin i h = record { within = omega arith; count = omega arith }
 
--- n counts the ends below j; the set and the right set are those at j
-pub record Counting (book t sets scratch : List ℕ) (i j set right n : ℕ) : Type 0 where
-  pub walk : Pruned (book_of book) t i j set
-  pub here : right ≡ right_set sets (get_or scratch j 0)
-  pub tally : Tally (end_count (rules_in book) t i) (suc (length t)) (start_count (rules_in book) t i) j n
+-- n counts the ends of s that come before what is left
+pub record Counting (s : Start) (left : Ends) (n : ℕ) : Type 0 where
+  pub start : left.start ≡ s
+  pub tally : Tally (end_count (rules_for s) (tape_of s) s.at) (suc (length (tape_of s))) (start_count (rules_for s) (tape_of s) s.at) left.at n
 
-module _ (book t sets scratch : List ℕ) (seen : RightSets book t sets scratch) (i : ℕ) where
+-- the rules that pass at an end are those that have a candidate there
+hits_are : (e : End) → hit_count (book_of (bytes e.start)) e.set e.right ≡ end_count (rules_for e.start) (tape_of e.start) e.start.at e.at
+unfolding hit_count
+hits_are e =
+    let b = book_of (bytes e.start) in
+    let t = tape_of e.start in
+    sum_same (passes b e.set e.right) (λ (r : ℕ). cond (candidate (rules_for e.start) t e.start.at e.at r) 1 0)
+    (λ r. ap (λ (c : Bool). cond c 1 0) (end_hits _ _ _ _ e.start.pass.now.walk.right_sets e.start.at e.at e.set e.right e.sets_there r)) 0 (length b.words)
+
+module _ (s : Start) (left : Ends) where
   abbrev ends : ℕ → ℕ
-  ends = end_count (rules_in book) t i
+  ends = end_count (rules_for s) (tape_of s) s.at
 
   abbrev all : ℕ
-  all = start_count (rules_in book) t i
+  all = start_count (rules_for s) (tape_of s) s.at
 
-  pub counting_start : (L R F : ℕ) → i ≤ length t → L ≡ left_at (book_of book) t i → R ≡ right_set sets (get_or scratch i 0) → F ≡ focus_first (book_of book) L R
-      → Counting book t sets scratch i i F R 0
-  counting_start L R F k e f g = record {
-    walk = pruned_start book t sets scratch seen i L R F k e f g;
-    here = f;
-    tally = start_begin (rules_in book) t i k;
-  }
+  pub counting_start : left.start ≡ s → left.at ≡ s.at → Counting s left 0
+  counting_start e f = record { start = e; tally = rw f (start_begin (rules_for s) (tape_of s) s.at s.within) }
 
-  module _ (j set right n : ℕ) (was : Counting book t sets scratch i j set right n) where
-    module _ (x : ℕ) (g : x ≡ hit_count (book_of book) set right) where
-      hits_are : x ≡ ends j
-      unfolding hit_count
-      hits_are = g ∙ sum_same (passes (book_of book) set right) (λ (r : ℕ). cond (candidate (rules_in book) t i j r) 1 0)
-          (λ r. ap (λ (c : Bool). cond c 1 0) (pruned_hits book t sets scratch seen i j set was.walk right was.here r)) 0 (length (book_of book).words)
+  module _ (n : ℕ) (was : Counting s left n) where
+    module _ (e : End) (left' : Ends) (next : NextEnd left e left') (x : ℕ) (g : x ≡ hit_count (book_of (bytes e.start)) e.set e.right) where
+      same : e.start ≡ s
+      same = next.start ∙ was.start
 
-      turned : Tally ends (suc (length t)) all (suc j) (n + x)
-      turned = let h = was.walk.high in tally_turn ends (suc (length t)) all j n was.tally (omega arith) x hits_are
+      counted : x ≡ ends left.at
+      counted = g ∙ hits_are e ∙ ap (λ (z : Start). end_count (rules_for z) (tape_of z) z.at e.at) same ∙ ap ends next.at
+
+      turned : Tally ends (suc (length (tape_of s))) all (suc left.at) (n + x)
+      turned =
+          let h = e.sets_there.high in
+          tally_turn ends (suc (length (tape_of s))) all left.at n was.tally (omega (arith, ap (λ (z : Start). length (tape_of z)) same, next.at)) x counted
 
       pub counting_low : n + x ≤ all
-      counting_low = tally_low ends (suc (length t)) all (suc j) (n + x) turned
+      counting_low = tally_low ends (suc (length (tape_of s))) all (suc left.at) (n + x) turned
 
-      pub counting_turn : j < length t → (R X : ℕ) → R ≡ right_set sets (get_or scratch (j + 1) 0) → X ≡ focus_next (book_of book) set (get_or t j 0) R
-          → Counting book t sets scratch i (j + 1) X R (n + x)
-      counting_turn inside R X e f = record {
-        walk = pruned_turn book t sets scratch seen i j set was.walk inside R X e f;
-        here = e;
-        tally = rw add-one turned;
-      }
+      pub counting_turn : Counting s left' (n + x)
+      counting_turn = record { start = next.start_after ∙ was.start; tally = rw next.at_after turned }
 
-      pub counting_end : length t ≤ j → n + x ≡ all
-      counting_end h = tally_end ends (suc (length t)) all (suc j) (n + x) turned (omega arith)
-
-    pub counting_dead : set ≡ 0 → n ≡ all
-    counting_dead z = tally_rest ends (suc (length t)) all j n was.tally
-        (λ k h g. end_none (rules_in book) t i k (λ r l. pruned_dead book t sets scratch seen i j set was.walk z r k h))
+    pub counting_end : NoneFrom (rules_for left.start) (tape_of left.start) left.start.at left.at → n ≡ all
+    counting_end h =
+        let none : NoneFrom (rules_for s) (tape_of s) s.at left.at = subst (λ (z : Start). NoneFrom (rules_for z) (tape_of z) z.at left.at) was.start h in
+        tally_rest ends (suc (length (tape_of s))) all left.at n was.tally
+        (λ k h g. end_none (rules_for s) (tape_of s) s.at k (λ r l. none r k h (omega arith)))
 
 -- ---- the whole tape
 
-pub record Totalled (book t sets : List ℕ) (n k i : ℕ) : Type 0 where
-  pub within : i ≤ length t
-  pub tally : Tally (start_count (rules_in book) t) (suc (length t)) (length (account (rules_in book) t)) i n
-  pub left : LeftNumber book t sets k i
+abbrev pub rules_over : Pass → Rules
+rules_over p = rules_in p.walk.outline.states.book.now
 
-module _ (book t rows sets scratch : List ℕ) (ready : Ready book t rows sets scratch) where
-  pub total_start : Totalled book t sets 0 0 0
+-- n counts the starts that come before what is left
+pub record Totalled (p : Pass) (left : Starts) (n : ℕ) : Type 0 where
+  pub pass : left.pass.now ≡ p
+  pub tally :
+      Tally (start_count (rules_over p) p.walk.tape.now) (suc (length p.walk.tape.now)) (length (account (rules_over p) p.walk.tape.now)) left.at n
+
+module _ (p : Pass) (left : Starts) where
+  abbrev tape : List ℕ
+  tape = p.walk.tape.now
+
+  abbrev starts : ℕ → ℕ
+  starts = start_count (rules_over p) tape
+
+  abbrev whole : ℕ
+  whole = length (account (rules_over p) tape)
+
+  pub total_start : left.pass.now ≡ p → left.at ≡ 0 → Totalled p left 0
   unfolding start_count
-  total_start =
-      let z : suc (length t) - 0 ≡ suc (length t) = omega arith in
+  total_start e f =
+      let z : suc (length tape) - 0 ≡ suc (length tape) = omega arith in
       record {
-        within = omega arith;
-        tally = record { within = omega arith; count = omega (arith, account_length (rules_in book) t, ap (sum (start_count (rules_in book) t) 0) z) };
-        left = left_start book t rows sets scratch ready;
+        pass = e;
+        tally = rw f (record { within = omega arith; count = omega (arith, account_length (rules_over p) tape, ap (sum starts 0) z) });
       }
 
-  module _ (n k i : ℕ) (was : Totalled book t sets n k i) (x : ℕ) (e : x ≡ start_count (rules_in book) t i) where
-    abbrev all_lines_lem : ℕ
-    all_lines_lem = length (account (rules_in book) t)
+  module _ (n : ℕ) (was : Totalled p left n) where
+    module _ (s : Start) (left' : Starts) (next : NextStart left s left') (x : ℕ) (g : x ≡ start_count (rules_for s) (tape_of s) s.at) where
+      same_pass : s.pass.now ≡ p
+      same_pass = ap (λ (q : Bor Pass). q.now) next.pass ∙ was.pass
 
-    totalled : Tally (start_count (rules_in book) t) (suc (length t)) all_lines_lem (suc i) (n + x)
-    totalled = let w = was.within in tally_turn (start_count (rules_in book) t) (suc (length t)) all_lines_lem i n was.tally (omega arith) x e
+      added : x ≡ starts left.at
+      added = g ∙ ap (λ (q : Pass). start_count (rules_over q) q.walk.tape.now s.at) same_pass ∙ ap starts next.at
 
-    pub total_low : n + x ≤ all_lines_lem
-    total_low = tally_low (start_count (rules_in book) t) (suc (length t)) all_lines_lem (suc i) (n + x) totalled
+      passed : Tally starts (suc (length tape)) whole (suc left.at) (n + x)
+      passed =
+          let h = s.within in
+          tally_turn starts (suc (length tape)) whole left.at n was.tally (omega (arith, ap (λ (q : Pass). length q.walk.tape.now) same_pass, next.at)) x added
 
-    pub total_turn : (k' : ℕ) → i < length t → k' ≡ left_entry rows k (get_or t i 0) → Totalled book t sets (n + x) k' (i + 1)
-    total_turn k' h g = record {
-      within = omega arith;
-      tally = rw add-one totalled;
-      left = left_turn book t rows sets scratch ready k i k' h was.left g;
-    }
+      pub total_low : n + x ≤ whole
+      total_low = tally_low starts (suc (length tape)) whole (suc left.at) (n + x) passed
 
-    pub total_end : length t ≤ i → n + x ≡ all_lines_lem
-    total_end h = tally_end (start_count (rules_in book) t) (suc (length t)) all_lines_lem (suc i) (n + x) totalled (omega arith)
+      pub total_turn : Totalled p left' (n + x)
+      total_turn = record { pass = ap (λ (q : Bor Pass). q.now) next.pass_after ∙ was.pass; tally = rw next.at_after passed }
+
+    pub total_end : length left.pass.now.walk.tape.now < left.at → n ≡ whole
+    total_end h = tally_end starts (suc (length tape)) whole left.at n was.tally (omega (arith, ap (λ (q : Pass). length q.walk.tape.now) was.pass))
 
 -- ---- no count wraps
 

@@ -7,23 +7,24 @@ use mathlib.Core.List.{List, [], ◌∷◌, ◌++◌}
 use native.Mathlib.Omega.{arith}
 use native.Mathlib.Numerals.{add-one}
 use lib.Dec.{T}
-use lib.ListN.{length, get_or, take, set, length-append}
+use lib.ListN.{length, take, set, length-append}
 use lib.Seq.{sets-eq}
 use Rattle.book.specs.Reading.{Book, book_of}
-use Rattle.book.specs.Language.{Rules, rules_in}
-use Rattle.sets.specs.Sets.{left_at}
-use Rattle.sets.specs.Focus.{focus_first, focus_next}
-use Rattle.sets.specs.Tables.{right_set}
+use Rattle.book.specs.Language.{Rules}
 use Rattle.stretches.specs.Candidates.{candidate, keep}
 use Rattle.stretches.specs.Account.{Line, each, line_words, line_length, line_rule, line_start, line_end, line_verdict, line_deciding, line_deciding_rule, words_in}
-use Rattle.stretches.specs.Ready.{RightSets}
 use Rattle.stretches.specs.Position.{hits}
 use Rattle.lines.specs.Lines.{line_by, DecidesBy, hit_lines, end_lines, start_lines, LinesFit, LinesPut}
+use Rattle.lines.specs.Ends.{NoneFrom}
+use Rattle.lines.specs.Coming.{bytes, rules_for, tape_of, NextEnd}
 use Rattle.lines.specs.declared.writing.Deciding.{Deciding}
+use Rattle.lines.specs.declared.ends.Start.{Start}
+use Rattle.lines.specs.declared.ends.End.{End}
+use Rattle.lines.specs.declared.ends.Ends.{Ends}
+use Rattle.lines.proofs.Onward.{end_hits}
 use Rattle.stretches.proofs.Lists.{each_none, each_same, keep_not}
 use Rattle.stretches.proofs.Counts.{words_append}
 use Rattle.stretches.proofs.Front.{Front, front_begin, front_place, front_put, front_finish, put_nil}
-use Rattle.stretches.proofs.Pruned.{Pruned, pruned_start, pruned_turn, pruned_hits, pruned_dead}
 
 words_none : words_in [] ≡ []
 unfolding words_in
@@ -68,7 +69,7 @@ pub kept_yes : (hit c : Bool) (x : Line) (at : ℕ) (l : List ℕ) (at' : ℕ) (
     → LinesPut (keep c x) at l at' l'
 kept_yes hit c x at l at' l' e f h = subst (λ (d : Bool). LinesPut (keep d x) at l at' l') (sym f ∙ e) h
 
-put_none : (ls : List Line) (at : ℕ) (l : List ℕ) → ls ≡ [] → LinesPut ls at l at l
+pub put_none : (ls : List Line) (at : ℕ) (l : List ℕ) → ls ≡ [] → LinesPut ls at l at l
 unfolding words_in
 put_none ls at l e = subst (λ (x : List Line). LinesPut x at l at l) (sym e) (record { next = omega arith; lines = put_nil l at })
 
@@ -177,75 +178,69 @@ module _ (b : Rules) (t : List ℕ) (i : ℕ) (d : Deciding) where
   abbrev pub from_end : ℕ → List Line
   from_end j = each (end_lines b t i d) j (suc (length t) - j)
 
-  end_start : start_lines b t i d ≡ from_end i
+  pub end_start : start_lines b t i d ≡ from_end i
   unfolding start_lines
   end_start = refl
 
   end_turn : (j : ℕ) → j ≤ length t → from_end j ≡ end_lines b t i d j ++ from_end (suc j)
   end_turn j h = let z : suc (length t) - j ≡ suc (suc (length t) - suc j) = omega arith in ap (each (end_lines b t i d) j) z
 
-  end_past : (j : ℕ) → length t ≤ j → from_end (suc j) ≡ []
-  end_past j h = let z : suc (length t) - suc j ≡ 0 = omega arith in ap (each (end_lines b t i d) (suc j)) z
+  pub end_rest : (j : ℕ) → ((r k : ℕ) → r < length b.words → j ≤ k → k ≤ length t → T (candidate b t i k r) → ⊥) → from_end j ≡ []
+  end_rest j h = each_none (end_lines b t i d) j (suc (length t) - j) (λ k g f. end_none k (λ r x. h r k x g (omega arith)))
 
-  end_rest : (j : ℕ) → ((r k : ℕ) → j ≤ k → T (candidate b t i k r) → ⊥) → from_end j ≡ []
-  end_rest j h = each_none (end_lines b t i d) j (suc (length t) - j) (λ k g f. end_none k (λ r x. h r k (omega arith)))
+-- the lines of the rules that pass at an end are those of the rules that have a candidate there
+lines_are : (e : End) (d : Deciding) → hit_lines (book_of (bytes e.start)) e.set e.right e.start.at e.at d ≡ end_lines (rules_for e.start) (tape_of e.start) e.start.at d e.at
+unfolding hit_lines
+lines_are e d =
+    let b = book_of (bytes e.start) in
+    let t = tape_of e.start in
+    each_same (λ (r : ℕ). keep (hits b e.set e.right r) (line_by e.start.at e.at r d)) (λ (r : ℕ). keep (candidate (rules_for e.start) t e.start.at e.at r) (line_by e.start.at e.at r d))
+    0 (length b.words)
+    (λ r h k. ap (λ (c : Bool). keep c (line_by e.start.at e.at r d)) (end_hits _ _ _ _ e.start.pass.now.walk.right_sets e.start.at e.at e.set e.right e.sets_there r))
 
--- the lines of the ends below j are written; the set and the right set are those at j
-pub record Listed (book t sets scratch : List ℕ) (i : ℕ) (d : Deciding) (l₀ l : List ℕ) (at p j set right : ℕ) : Type 0 where
-  pub walk : Pruned (book_of book) t i j set
-  pub here : right ≡ right_set sets (get_or scratch j 0)
-  pub written : Written (start_lines (rules_in book) t i d) l₀ at l p (from_end (rules_in book) t i d j)
+-- the lines of the ends of s that come before what is left are written
+pub record Listed (s : Start) (left : Ends) (d : Deciding) (l₀ l : List ℕ) (at p : ℕ) : Type 0 where
+  pub start : left.start ≡ s
+  pub written : Written (start_lines (rules_for s) (tape_of s) s.at d) l₀ at l p (from_end (rules_for s) (tape_of s) s.at d left.at)
 
-module _ (book t sets scratch : List ℕ) (seen : RightSets book t sets scratch) (i : ℕ) (d : Deciding) where
-  abbrev b : Book
-  b = book_of book
-
+module _ (s : Start) (left : Ends) (d : Deciding) where
   abbrev whole : List Line
-  whole = start_lines (rules_in book) t i d
+  whole = start_lines (rules_for s) (tape_of s) s.at d
 
   abbrev rest : ℕ → List Line
-  rest = from_end (rules_in book) t i d
+  rest = from_end (rules_for s) (tape_of s) s.at d
 
-  pub listed_start : (L R F : ℕ) (l : List ℕ) (at : ℕ) → i ≤ length t → L ≡ left_at b t i → R ≡ right_set sets (get_or scratch i 0)
-      → F ≡ focus_first b L R → LinesFit whole at l → Listed book t sets scratch i d l l at at i F R
-  listed_start L R F l at k e f g h = record {
-    walk = pruned_start book t sets scratch seen i L R F k e f g;
-    here = f;
-    written = subst (Written whole l at l at) (end_start (rules_in book) t i d) (written_start whole l at h);
+  pub listed_start : (l : List ℕ) (at : ℕ) → left.start ≡ s → left.at ≡ s.at → LinesFit whole at l → Listed s left d l l at at
+  listed_start l at e f h = record {
+    start = e;
+    written = rw f (subst (Written whole l at l at) (end_start (rules_for s) (tape_of s) s.at d) (written_start whole l at h));
   }
 
-  module _ (l₀ l : List ℕ) (at p j set right : ℕ) (was : Listed book t sets scratch i d l₀ l at p j set right) where
-    abbrev here : List Line
-    here = hit_lines b set right i j d
+  module _ (l₀ l : List ℕ) (at p : ℕ) (was : Listed s left d l₀ l at p) where
+    module _ (e : End) (left' : Ends) (next : NextEnd left e left') where
+      abbrev here : List Line
+      here = hit_lines (book_of (bytes e.start)) e.set e.right e.start.at e.at d
 
-    lines_are : here ≡ end_lines (rules_in book) t i d j
-    unfolding hit_lines
-    lines_are =
-        each_same (λ (r : ℕ). keep (hits b set right r) (line_by i j r d)) (λ (r : ℕ). keep (candidate (rules_in book) t i j r) (line_by i j r d))
-        0 (length b.words)
-        (λ r h k. ap (λ (c : Bool). keep c (line_by i j r d)) (pruned_hits book t sets scratch seen i j set was.walk right was.here r))
+      same : e.start ≡ s
+      same = next.start ∙ was.start
 
-    step : rest j ≡ here ++ rest (suc j)
-    step = end_turn (rules_in book) t i d j was.walk.high ∙ ap (λ (x : List Line). x ++ rest (suc j)) (sym lines_are)
+      step : rest left.at ≡ here ++ rest (suc left.at)
+      step =
+          let h = e.sets_there.high in
+          end_turn (rules_for s) (tape_of s) s.at d left.at (omega (arith, ap (λ (z : Start). length (tape_of z)) same, next.at))
+          ∙ ap (λ (x : List Line). x ++ rest (suc left.at))
+          (sym (lines_are e d ∙ ap (λ (z : Start). end_lines (rules_for z) (tape_of z) z.at d e.at) same ∙ ap (end_lines (rules_for s) (tape_of s) s.at d) next.at))
 
-    pub listed_room : LinesFit here p l
-    listed_room = written_room whole l₀ at l p (rest j) was.written here (rest (suc j)) step
+      pub listed_room : LinesFit here p l
+      listed_room = written_room whole l₀ at l p (rest left.at) was.written here (rest (suc left.at)) step
 
-    module _ (p' : ℕ) (l' : List ℕ) (did : LinesPut here p l p' l') where
-      turned : Written whole l₀ at l' p' (rest (suc j))
-      turned = written_turn whole l₀ at l p (rest j) was.written here (rest (suc j)) step p' l' did
-
-      pub listed_turn : j < length t → (R X : ℕ) → R ≡ right_set sets (get_or scratch (j + 1) 0) → X ≡ focus_next b set (get_or t j 0) R
-          → Listed book t sets scratch i d l₀ l' at p' (j + 1) X R
-      listed_turn inside R X e f = record {
-        walk = pruned_turn book t sets scratch seen i j set was.walk inside R X e f;
-        here = e;
-        written = rw add-one turned;
+      pub listed_turn : (p' : ℕ) (l' : List ℕ) → LinesPut here p l p' l' → Listed s left' d l₀ l' at p'
+      listed_turn p' l' did = record {
+        start = next.start_after ∙ was.start;
+        written = rw next.at_after (written_turn whole l₀ at l p (rest left.at) was.written here (rest (suc left.at)) step p' l' did);
       }
 
-      pub listed_end : length t ≤ j → LinesPut whole at l₀ p' l'
-      listed_end h = written_end whole l₀ at l' p' (rest (suc j)) turned (end_past (rules_in book) t i d j h)
-
-    pub listed_dead : set ≡ 0 → LinesPut whole at l₀ p l
-    listed_dead z =
-        written_end whole l₀ at l p (rest j) was.written (end_rest (rules_in book) t i d j (pruned_dead book t sets scratch seen i j set was.walk z))
+    pub listed_end : NoneFrom (rules_for left.start) (tape_of left.start) left.start.at left.at → LinesPut whole at l₀ p l
+    listed_end h =
+        let none : NoneFrom (rules_for s) (tape_of s) s.at left.at = subst (λ (z : Start). NoneFrom (rules_for z) (tape_of z) z.at left.at) was.start h in
+        written_end whole l₀ at l p (rest left.at) was.written (end_rest (rules_for s) (tape_of s) s.at d left.at (λ r k x. none r k))

@@ -1,21 +1,22 @@
 // ACCOUNT's passes over one tape: the candidates are counted before the first word is written, so that a refusal leaves the account as it was.
 #![tactic(auto)]
 
-ghost use Rattle.std.specs.Prelude.{◌≡◌, ◌≤◌, length};
+ghost use Rattle.std.specs.Prelude.{◌≡◌, length};
 ghost use Rattle.book.specs.Reading.{book_of};
 ghost use Rattle.book.specs.Language.{rules_in};
-ghost use Rattle.sets.specs.Sets.{left_at};
 ghost use Rattle.stretches.specs.Account.{account};
-ghost use Rattle.stretches.specs.Buffers.{longest_tape};
+ghost use Rattle.lines.specs.Results.{accounted};
 ghost use Rattle.lines.specs.Listing.{lines_leave, lines_def};
-ghost use Rattle.stretches.specs.Ready.{Tests, Outlined, Ready, RightSets};
+ghost use Rattle.lines.specs.Coming.{bytes, rules_for, tape_of};
 ghost use Rattle.lines.specs.Lines.{hit_count, start_count};
 
+use crate::ends::{End, Start, Starts};
 use crate::writing::write_lines;
-use book::outline::{ALL_ACCEPTS, MASKS};
-use sets::entries::{left_entry, right_set};
-use stretches::walk::{first_set, rule_hits};
+use book::outline::ALL_ACCEPTS;
+use book::replies::{Reason, Refusal};
+use stretches::pass::Pass;
 
+mod ends; // ends.rt: the starts of a tape and the ends of each, in the account's order
 mod writing; // writing.rt: the lines of the account, one after the other
 
 // The words of a line of an account, and where each stands in it.
@@ -33,7 +34,7 @@ pub const LINE_DECIDING: usize = 4;
 
 pub const LINE_DECIDING_RULE: usize = 5;
 
-// ACCOUNT's answer.
+// ACCOUNT's answer, in document 01's numbers: the C interface has the same fields.
 #[derive(Clone, Copy)]
 pub struct Accounted {
     // 0, or the refusal: here 15 alone, the account too short.
@@ -44,119 +45,70 @@ pub struct Accounted {
     pub candidates: usize,
 }
 
+// Each such conversion names the fields that C has, of its own type, once.
+impl From<Result<usize, Refusal>> for Accounted {
+    ghost from_gives = { λ r a. a ≡ accounted r };
+
+    fn from(counted: Result<usize, Refusal>) -> Accounted {
+        match counted {
+            Ok(n) => Accounted {
+                reply: 0,
+                place: 0,
+                candidates: n,
+            },
+            Err(refusal) => Accounted {
+                reply: refusal.reason.number(),
+                place: refusal.place,
+                candidates: 0,
+            },
+        }
+    }
+}
+
 // How many rules pass at an end. At most ends the set holds no focus accept.
-fn hit_count(book: &[u8], masks: &[u64; MASKS], rules: usize, set: u64, right: u64) -> usize
-    requires { Tests (book_of book.now) rules masks.now }
-    ensures { result ≡ hit_count (book_of book.now) set right }
+fn hit_count(end: &End) -> usize
+    ensures { result ≡ hit_count (book_of (bytes end.now.start)) end.now.set end.now.right }
 {
-    if set & masks[ALL_ACCEPTS] == 0 {
+    let walk = &end.start.pass.walk;
+    if end.set & walk.outline.masks[ALL_ACCEPTS] == 0 {
         return 0;
     }
+    (0..walk.rules)
+        .filter(|rule| walk.hits(end.set, end.right, *rule))
+        .count()
+}
+
+// How many candidates start at a position.
+fn start_count(start: &Start) -> usize
+    ensures { result ≡ start_count (rules_for start.now) (tape_of start.now) start.now.at }
+{
     let mut n = 0;
-    let mut rule = 0;
-    while rule < rules {
-        let hit = rule_hits(book, masks, rules, set, right, rule);
-        rule += 1;
-        if hit {
-            n += 1;
-        }
+    for end in start.ends() {
+        n += hit_count(&end);
     }
     n
 }
 
-// How many candidates start at a position: the ends from it on, the position itself first.
-fn start_count(
-    book: &[u8],
-    places: &[u16; book::STATES],
-    masks: &[u64; MASKS],
-    rules: usize,
-    tape: &[u8],
-    sets: &[u64],
-    scratch: &[u8],
-    from: usize,
-    left: u64,
-) -> usize
-    requires outlined { Outlined (book_of book.now) rules places.now masks.now }
-    requires right_sets { RightSets book.now tape.now sets.now scratch.now }
-    requires from_in_bounds { (from ≤ length tape.now) × (length tape.now ≤ longest_tape) × (left ≡ left_at (book_of book.now) tape.now from) }
-    ensures { result ≡ start_count (rules_in book.now) tape.now from }
-{
-    let mut right = right_set(sets, scratch, from);
-    let mut set = first_set(book, masks, rules, left, right);
-    let mut n = 0;
-    let mut j = from;
-    loop {
-        if set == 0 {
-            return n;
-        }
-        n += hit_count(book, masks, rules, set, right);
-        if j == tape.len() {
-            return n;
-        }
-        right = right_set(sets, scratch, j + 1);
-        set = sets::stepping::focus_next(book, places, set, tape[j], right);
-        j += 1;
-    }
-}
-
 // How many candidates the tape has.
-fn count(
-    book: &[u8],
-    places: &[u16; book::STATES],
-    masks: &[u64; MASKS],
-    rules: usize,
-    tape: &[u8],
-    rows: &[u8],
-    sets: &[u64],
-    scratch: &[u8],
-) -> usize
-    requires outlined { Outlined (book_of book.now) rules places.now masks.now }
-    requires ready { Ready book.now tape.now rows.now sets.now scratch.now }
-    ensures { result ≡ length (account (rules_in book.now) tape.now) }
+fn count(pass: &Pass) -> usize
+    ensures { result ≡ length (account (rules_in pass.now.walk.outline.states.book.now) pass.now.walk.tape.now) }
 {
     let mut n = 0;
-    let mut k = 0;
-    let mut i = 0;
-    loop {
-        n += start_count(book, places, masks, rules, tape, sets, scratch, i, sets[k]);
-        if i == tape.len() {
-            return n;
-        }
-        k = left_entry(rows, k, tape[i]);
-        i += 1;
+    for start in Starts::of(pass) {
+        n += start_count(&start);
     }
+    n
 }
 
-// The account of one tape after a build and its backward pass: counts, then writes. Refused with 15 and nothing written where the account is too
-// short. Public, and with a `requires`, as `output::rewrite_ready` is: who accounts calls it after a build, with the outline that he has from the
-// book.
-pub fn account_ready(
-    book: &[u8],
-    places: &[u16; book::STATES],
-    masks: &[u64; MASKS],
-    rules: usize,
-    tape: &[u8],
-    rows: &[u8],
-    sets: &[u64],
-    scratch: &[u8],
-    lines: &mut [u16],
-) -> Accounted
-    requires outlined { Outlined (book_of book.now) rules places.now masks.now }
-    requires ready { Ready book.now tape.now rows.now sets.now scratch.now }
-    ensures { lines_leave result lines.new ≡ lines_def (rules_in book.now) tape.now lines.old }
+// The account of one tape after a build and its backward pass: counts, then writes. Answers the number of candidates, or is refused with 15 and nothing
+// written where the account is too short. Public, as `output::rewrite_ready` is: who accounts calls it after a build, with what a pass is lent.
+pub fn account_ready(pass: &Pass, lines: &mut [u16]) -> Result<usize, Refusal>
+    ensures { lines_leave (accounted result) lines.new ≡ lines_def (rules_in pass.now.walk.outline.states.book.now) pass.now.walk.tape.now lines.old }
 {
-    let candidates = count(book, places, masks, rules, tape, rows, sets, scratch);
+    let candidates = count(pass);
     if lines.len() / LINE_WORDS < candidates {
-        return Accounted {
-            reply: 15,
-            place: LINE_WORDS * candidates,
-            candidates: 0,
-        };
+        return Err(Reason::NoRoom.at(LINE_WORDS * candidates));
     }
-    write_lines(book, places, masks, rules, tape, rows, sets, scratch, lines);
-    Accounted {
-        reply: 0,
-        place: 0,
-        candidates,
-    }
+    write_lines(pass, lines);
+    Ok(candidates)
 }

@@ -9,4 +9,5 @@ pub mod Forth
 pub mod Outcomes
 -- What the crates above may rely on.
 pub mod Tapes
+pub mod Results
 pub mod One

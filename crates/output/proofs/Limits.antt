@@ -2,10 +2,10 @@
 -- stretch a position. Where no focus is empty, for each symbol as many as the longest word has, or itself. Assumes nothing.
 use Prim.Native.Nat.{ℕ, zero, suc, ◌+◌, ◌*◌, max, ◌≤◌, ◌<◌}
 use mathlib.Core.Path.{◌≡◌, refl, subst, sym, ap, ◌∙◌}
-use mathlib.Core.Logic.{◌≢◌, by_cases}
+use mathlib.Core.Logic.{by_cases}
 use mathlib.Core.Bool.{Bool, true, false, cond, ◌&&◌}
 use mathlib.Core.List.{List, [], ◌∷◌, map}
-use native.Mathlib.Nat.{suc-mul, mul-one, mul-le-mul}
+use native.Mathlib.Nat.{suc-mul, mul-le-mul}
 use native.Mathlib.Omega.{arith}
 use native.Mathlib.Decide.{dec_lt, ℕ_discrete}
 use borrow.Author.Tests.{eq-eqb, ne_eqb}
@@ -14,18 +14,18 @@ use lib.Dec.{T, eqb, ltb}
 use lib.ListN.{length, get_or, take, drop, length-append}
 use lib.Seq.{slice, slice_empty}
 use Rattle.book.specs.Format.{longest_word}
-use Rattle.book.specs.Reading.{word_at, check_def, book_of}
+use Rattle.book.specs.Reading.{check_def, book_of}
 use Rattle.book.specs.Language.{Rules, rules_in}
-use Rattle.book.specs.Outline.{WordsAt, all_starts, all_accepts}
+use Rattle.book.specs.Outline.{all_starts, all_accepts}
 use Rattle.book.proofs.Tests.{and_left, any_up}
 use Rattle.book.proofs.Claims.{sound as sound-of}
 use Rattle.stretches.specs.Candidates.{candidate, some_rule, longest, fresh, rule_of, keep, taken_at, taken}
 use Rattle.stretches.specs.Output.{written, written_at, rule_word, rewriting}
 use Rattle.stretches.specs.Buffers.{longest_tape}
-use Rattle.stretches.specs.Ready.{Tests, Ready}
 use Rattle.stretches.specs.Position.{word_here, kept_at, marks_at, takes_at, end_next}
-use Rattle.output.specs.Passes.{longest_in, most_output, most_replaced, longest_for}
-use Rattle.stretches.proofs.Greatest.{greatest_all, greatest_most, Topped, topped_start, topped_more, topped_less, topped_end}
+use Rattle.stretches.specs.declared.pass.Pass.{Pass}
+use Rattle.output.specs.Passes.{by, along, longest_in, most_output, most_replaced, longest_for}
+use Rattle.stretches.proofs.Greatest.{greatest_all, greatest_most, Topped, topped_more, topped_less, topped_end}
 use Rattle.stretches.proofs.WordMarks.{marks_length}
 use Rattle.stretches.proofs.Meets.{none_empty}
 use Rattle.stretches.proofs.Walks.{longest_low, longest_high}
@@ -65,25 +65,19 @@ module _ (b : Rules) where
 abbrev pub Longest : List ℕ → ℕ → ℕ → Type 0
 Longest book most r = Topped 0 (map length (book_of book).words) most r
 
-pub longest_start : (book : List ℕ) → Longest book 0 0
-longest_start book = topped_start 0 (map length (book_of book).words)
+module _ (book : List ℕ) (most r : ℕ) (was : Longest book most r) where
+  pub longest_turn : r < length (book_of book).words → (n : ℕ) → n ≡ length (get_or (book_of book).words r []) → Longest book (max most n) (r + 1)
+  longest_turn h n e = by_cases (dec_lt most n)
+      (λ g. let m : n ≡ max most n = omega arith in subst (λ (k : ℕ). Longest book k (r + 1)) m (topped_more 0 (map length (book_of book).words) most r was below n is g))
+      (λ g. let m : most ≡ max most n = omega arith in subst (λ (k : ℕ). Longest book k (r + 1)) m (topped_less 0 (map length (book_of book).words) most r was below n is (omega arith)))
+    where
+      below : r < length (map length (book_of book).words)
+      below = omega (arith, lengths_many (book_of book).words)
 
-module _ (book places : List ℕ) (stand : WordsAt book (book_of book).words places) (n : ℕ) (many : n ≡ length (book_of book).words) (most r : ℕ)
-    (was : Longest book most r) where
-  module _ (inside : r < n) (x : ℕ) (e : x ≡ length (word_at book (get_or places r 0))) where
-    below : r < length (map length (book_of book).words)
-    below = omega (arith, lengths_many (book_of book).words)
+      is : n ≡ get_or (map length (book_of book).words) r 0
+      is = e ∙ sym (lengths_at (book_of book).words r)
 
-    is : x ≡ get_or (map length (book_of book).words) r 0
-    is = e ∙ sym (lengths_at (book_of book).words r ∙ ap length (stand r (omega arith)).is)
-
-    pub longest_more : most < x → Longest book x (r + 1)
-    longest_more h = topped_more 0 (map length (book_of book).words) most r was below x is h
-
-    pub longest_less : x ≤ most → Longest book most (r + 1)
-    longest_less h = topped_less 0 (map length (book_of book).words) most r was below x is h
-
-  pub longest_end : n ≤ r → most ≡ longest_in (rules_in book)
+  pub longest_end : length (book_of book).words ≤ r → most ≡ longest_in (rules_in book)
   unfolding longest_in
   longest_end h = topped_end 0 (map length (book_of book).words) most r was (omega (arith, lengths_many (book_of book).words))
 
@@ -199,48 +193,53 @@ module _ (b : Rules) (t : List ℕ) where
 pub word_short : (book : List ℕ) → (check_def book).reply ≡ 0 → longest_in (rules_in book) ≤ longest_word
 word_short book ok = most_limit (rules_in book) longest_word (λ r h. ((sound-of book ok).word r h).short)
 
-module _ (book t rows sets scratch : List ℕ) (ready : Ready book t rows sets scratch) where
-  short : longest_in (rules_in book) ≤ longest_word
-  short = word_short book ready.accepted
+module _ (p : Pass) where
+  short : longest_in (by p) ≤ longest_word
+  short = word_short p.walk.outline.states.book.now p.walk.outline.states.accepted
 
   -- what stands for one position has no more symbols than the longest word and one, and at the tape's end than the longest word
-  pub position_fits : (i end : ℕ) → length (marks_at (rules_in book) t i end) ≤ longest_word + 1
-  position_fits i end = omega (arith, marks_few (rules_in book) t i end, short)
+  pub position_fits : (i end : ℕ) → length (marks_at (by p) (along p) i end) ≤ longest_word + 1
+  position_fits i end = omega (arith, marks_few (by p) (along p) i end, short)
 
-  pub last_fits : (i : ℕ) → length (word_here (rules_in book) t i) ≤ longest_word + 1
-  last_fits i = omega (arith, word_few (rules_in book) t i, short)
+  pub last_fits : (i : ℕ) → length (word_here (by p) (along p) i) ≤ longest_word + 1
+  last_fits i = omega (arith, word_few (by p) (along p) i, short)
 
-  pub output_fits : length (rewriting (rules_in book) t) ≤ most_output longest_tape longest_word
+  pub output_fits : length (rewriting (by p) (along p)) ≤ most_output longest_tape longest_word
   output_fits =
-      let m = output_most (rules_in book) t longest_word short in
-      omega (arith, m, ready.tape_fits)
+      let m = output_most (by p) (along p) longest_word short in
+      omega (arith, m, p.ready.tape_fits)
 
   -- the bound as the code computes it
-  pub bound_holds : (masks : List ℕ) (n m r : ℕ) → Tests (book_of book) n masks → m ≡ longest_in (rules_in book)
-      → r ≡ longest_for (bit_and (get_or masks all_starts 0) (get_or masks all_accepts 0)) (length t) m
-      → length (rewriting (rules_in book) t) ≤ r
-  bound_holds masks n m r tests e f = by_cases (ℕ_discrete (bit_and (get_or masks all_starts 0) (get_or masks all_accepts 0)) 0)
-      (λ z. let q = f ∙ ap (λ (c : Bool). cond c (most_replaced (length t) m) (most_output (length t) m)) (eq-eqb _ _ z) in
-      omega (arith, q, replaced_most (rules_in book) t (none_empty (book_of book) n masks tests z) (max 1 m) (omega arith) (omega arith)))
-      (λ z. let q = f ∙ ap (λ (c : Bool). cond c (most_replaced (length t) m) (most_output (length t) m)) (ne_eqb _ _ z) in
-      omega (arith, q, output_most (rules_in book) t m (omega arith)))
+  pub bound_holds : (r : ℕ)
+      → r ≡ longest_for (bit_and (get_or p.walk.outline.masks.now all_starts 0) (get_or p.walk.outline.masks.now all_accepts 0)) (length (along p)) (longest_in (by p))
+      → length (rewriting (by p) (along p)) ≤ r
+  bound_holds r f = by_cases (ℕ_discrete x 0)
+      (λ z. let q = f ∙ ap (λ (c : Bool). cond c (most_replaced n m) (most_output n m)) (eq-eqb x 0 z) in
+      omega (
+        arith,
+        q,
+        replaced_most (by p) (along p) (none_empty (book_of p.walk.outline.states.book.now) p.walk.rules p.walk.outline.masks.now p.walk.outlined.tests z)
+            (max 1 m) (omega arith) (omega arith),
+      ))
+      (λ z. let q = f ∙ ap (λ (c : Bool). cond c (most_replaced n m) (most_output n m)) (ne_eqb x 0 z) in
+      omega (arith, q, output_most (by p) (along p) m (omega arith)))
+    where
+      x : ℕ
+      x = bit_and (get_or p.walk.outline.masks.now all_starts 0) (get_or p.walk.outline.masks.now all_accepts 0)
 
--- its three cases; x is what the masks of all starts and of all accepts have in common
-module _ (x n word : ℕ) where
-  pub bound_in : x ≢ 0 → most_output n word ≡ longest_for x n word
-  bound_in h = sym (ap (λ (c : Bool). cond c (most_replaced n word) (most_output n word)) (ne_eqb x 0 h))
+      n : ℕ
+      n = length (along p)
 
-  replaced : x ≡ 0 → most_replaced n word ≡ longest_for x n word
-  replaced h = sym (ap (λ (c : Bool). cond c (most_replaced n word) (most_output n word)) (eq-eqb x 0 h))
+      m : ℕ
+      m = longest_in (by p)
 
-  pub bound_one : x ≡ 0 → word ≡ 0 → n ≡ longest_for x n word
-  bound_one h e = let m : max 1 word ≡ 1 = omega arith in sym (mul-one n) ∙ ap (λ (k : ℕ). n * k) (sym m) ∙ replaced h
-
-  pub bound_word : x ≡ 0 → word ≢ 0 → n * word ≡ longest_for x n word
-  bound_word h e = let m : max 1 word ≡ word = omega (arith, e) in ap (λ (k : ℕ). n * k) (sym m) ∙ replaced h
-
-  -- no sum wraps
-  pub bound_fits : n ≤ longest_tape → word ≤ longest_word → (most_output n word ≤ most_output longest_tape longest_word) × (n * word ≤ longest_tape * longest_word)
-  bound_fits h g =
+  -- and no sum in it wraps
+  pub bound_fits : (word : ℕ) → word ≡ longest_in (by p)
+      → (word ≤ longest_word) × (most_output (length (along p)) word ≤ most_output longest_tape longest_word)
+      × (most_replaced (length (along p)) word ≤ longest_tape * longest_word)
+  bound_fits word e =
+      let h : length (along p) ≤ longest_tape = p.ready.tape_fits in
+      let g : word ≤ longest_word = omega (arith, short) in
       let w : word + 1 ≤ longest_word + 1 = omega arith in
-      (omega (arith, g, mul-le-mul h w), mul-le-mul h g)
+      let v : max 1 word ≤ longest_word = omega arith in
+      (g, omega (arith, g, mul-le-mul h w), mul-le-mul h v)

@@ -1,115 +1,153 @@
--- A rule's word as the book's bytes have it, and both outputs as far as it is written. Assumes nothing.
+-- Marks in both outputs: none, some after others, and a word whose last origin is put in after the others. Assumes nothing.
 use Prim.Native.Nat.{ℕ, suc, ◌+◌, ◌-◌, ◌≤◌, ◌<◌}
-use mathlib.Core.Path.{◌≡◌, sym, ap, ap₂, subst, ◌∙◌}
+use mathlib.Core.Path.{◌≡◌, refl, subst, sym, ap, ap₂, ◌∙◌}
 use mathlib.Core.List.{List, [], ◌∷◌, ◌++◌}
 use native.Mathlib.Omega.{arith}
 use native.Mathlib.Numerals.{add-one}
-use borrow.Author.Tests.{lt-ltb, le-ltb}
-use lib.ListN.{length, get_or, take, drop, set, replicate, length-replicate, get_or-replicate, replicate-append-replicate}
-use lib.Seq.{get_or-take, get_or-drop, drop-cons, drop-length}
-use Rattle.book.specs.Format.{length_at, symbols_at, byte}
-use Rattle.book.specs.Reading.{word_at}
-use Rattle.book.specs.Outline.{WordRoom}
-use Rattle.book.proofs.Placing.{word_length_lem}
-use Rattle.stretches.specs.Output.{last_position, word_marks, origins_of}
+use lib.Seq.{take-suc, take_all, length-take-le}
+use Rattle.std.specs.Borrow.{MutBor}
+use lib.ListN.{length, get_or, take, set, length-append, replicate, replicate-append-replicate, length-replicate}
+use Rattle.stretches.specs.Output.{Mark, marks, last_position, word_marks, symbols_of, origins_of}
 use Rattle.stretches.specs.Lists.{put}
-use Rattle.output.specs.Passes.{SymbolsPut, last_put, WordPut}
-use Rattle.stretches.proofs.WordMarks.{marks_origins}
-use Rattle.stretches.proofs.Front.{Front, front_begin, front_put, front_finish, put_one_lem, put_last}
+use Rattle.output.specs.Passes.{MarksFit, MarksPut}
+use Rattle.output.specs.declared.words.Outputs.{Outputs}
+use Rattle.stretches.proofs.Counts.{symbols_length, origins_length}
+use Rattle.stretches.proofs.WordMarks.{marks_length, marks_symbols, marks_origins, marks_own, symbols_append, origins_append}
+use Rattle.stretches.proofs.Front.{put_nil, put_both, put_last, length_put}
 
--- ---- the word in the record at p
+pub put_nothing : (ms : List Mark) (o : Outputs) → ms ≡ [] → MarksPut ms o o
+put_nothing ms o e = rw e (record {
+  next = omega arith;
+  outs = put_nil o.out.now o.at;
+  orgs = put_nil o.origins.now o.at;
+  same_out = refl;
+  same_origins = refl;
+})
 
-module _ (book : List ℕ) (p : ℕ) (r : WordRoom book p) where
-  word_symbol : (k : ℕ) → k < length (word_at book p) → get_or book (p + symbols_at + k) 0 ≡ get_or (word_at book p) k 0
-  word_symbol k h =
-      sym (get_or-take (byte book (p + length_at)) (drop (p + symbols_at) book) k 0 (omega (arith, word_length_lem book p r))
-      ∙ get_or-drop (p + symbols_at) book k 0)
+-- the buffers keep their lengths
+module _ (ms : List Mark) (o o' : Outputs) (fit : MarksFit ms o) (p : MarksPut ms o o') where
+  pub out_length : length o'.out.now ≡ length o.out.now
+  out_length = ap length p.outs ∙ length_put o.out.now o.at (symbols_of ms) (omega (arith, fit.outs, symbols_length ms))
 
--- one element more of a buffer that is filled from the front
-front_set : (l₀ l : List ℕ) (at x : ℕ) (more whole : List ℕ) → at < length l → Front l₀ l at (x ∷ more) whole → Front l₀ (set l at x) (at + 1) more whole
-front_set l₀ l at x more whole h was = rw (put_one_lem l at x h) (front_put l₀ l at (x ∷ []) more whole (omega arith) was)
+  pub org_length : length o'.origins.now ≡ length o.origins.now
+  org_length = ap length p.orgs ∙ length_put o.origins.now o.at (origins_of ms) (omega (arith, fit.orgs, origins_length ms))
 
--- a word as far as it is written
-pub record Spelling (w : List ℕ) (i : ℕ) (out₀ org₀ out org : List ℕ) (at k : ℕ) : Type 0 where
-  pub within : k ≤ length w
-  pub room : (at + length w ≤ length out₀) × (at + length w ≤ length org₀)
-  pub outs : Front out₀ out (at + k) (drop k w) (take at out₀ ++ w)
-  pub orgs : Front org₀ org (at + k) (drop k (replicate (length w) i)) (take at org₀ ++ replicate (length w) i)
+-- some marks, then others
+module _ (w k : List Mark) (o : Outputs) (room : MarksFit (w ++ k) o) where
+  pub fit_first : MarksFit w o
+  fit_first = record { outs = omega (arith, room.outs, length-append w k); orgs = omega (arith, room.orgs, length-append w k) }
 
-module _ (w : List ℕ) (i : ℕ) where
-  pub spelling_start : (out org : List ℕ) (at : ℕ) → (at + length w ≤ length out) × (at + length w ≤ length org) → Spelling w i out org out org at 0
-  spelling_start out org at h = record {
-    within = omega arith;
-    room = h;
-    outs = begin out w (omega arith);
-    orgs = begin org (replicate (length w) i) (omega arith);
-  }
-    where
-      begin : (l v : List ℕ) → at ≤ length l → Front l l (at + 0) (drop 0 v) (take at l ++ v)
-      begin l v g = let e : at ≡ at + 0 = omega arith in subst (λ (n : ℕ). Front l l n v (take at l ++ v)) e (front_begin l v at g)
+  module _ (o₁ : Outputs) (one : MarksPut w o o₁) where
+    pub fit_then : MarksFit k o₁
+    fit_then =
+        let n = length-append w k in
+        record {
+          outs = omega (arith, room.outs, n, one.next, out_length w o o₁ fit_first one);
+          orgs = omega (arith, room.orgs, n, one.next, org_length w o o₁ fit_first one);
+        }
 
-  module _ (out₀ org₀ out org : List ℕ) (at k : ℕ) (was : Spelling w i out₀ org₀ out org at k) where
-    pub spelling_room : k < length w → (at + k < length out) × (at + k < length org)
-    spelling_room h = (omega (arith, was.room, was.outs.same), omega (arith, was.room, was.orgs.same))
-
-    pub spelling_turn : k < length w → (x o : ℕ) → x ≡ get_or w k 0 → o ≡ i → Spelling w i out₀ org₀ (set out (at + k) x) (set org (at + k) o) at (k + 1)
-    spelling_turn h x o e f = record {
-      within = omega arith;
-      room = was.room;
-      outs = one out₀ out w x h (spelling_room h).0 e was.outs;
-      orgs = one org₀ org (replicate (length w) i) o (omega (arith, length-replicate (length w) i)) (spelling_room h).1 (f ∙ sym (get_or-replicate (length w) k i 0 h)) was.orgs;
+    pub put_then : (o₂ : Outputs) → MarksPut k o₁ o₂ → MarksPut (w ++ k) o o₂
+    put_then o₂ two = record {
+      next = omega (arith, one.next, two.next, length-append w k);
+      outs =
+          two.outs ∙ (λ x. put (one.outs x) (after (symbols_of w) (symbols_length w) x) (symbols_of k))
+          ∙ put_both o.out.now o.at (symbols_of w) (symbols_of k) (fits o.out.now (symbols_of w) (symbols_of k) room.outs (symbols_length w) (symbols_length k))
+          ∙ ap (put o.out.now o.at) (sym (symbols_append w k));
+      orgs =
+          two.orgs ∙ (λ x. put (one.orgs x) (after (origins_of w) (origins_length w) x) (origins_of k))
+          ∙ put_both o.origins.now o.at (origins_of w) (origins_of k) (fits o.origins.now (origins_of w) (origins_of k) room.orgs (origins_length w) (origins_length k))
+          ∙ ap (put o.origins.now o.at) (sym (origins_append w k));
+      same_out = two.same_out ∙ one.same_out;
+      same_origins = two.same_origins ∙ one.same_origins;
     }
       where
-        one : (l₀ l v : List ℕ) (x : ℕ) → k < length v → at + k < length l → x ≡ get_or v k 0 → Front l₀ l (at + k) (drop k v) (take at l₀ ++ v)
-            → Front l₀ (set l (at + k) x) (at + (k + 1)) (drop (k + 1) v) (take at l₀ ++ v)
-        one l₀ l v x g room e f =
-            let d : drop k v ≡ x ∷ drop (k + 1) v = drop-cons v k 0 g ∙ (λ z. sym e z ∷ drop (sym (add-one k) z) v) in
-            let s : at + k + 1 ≡ at + (k + 1) = omega arith in
-            subst (λ (n : ℕ). Front l₀ (set l (at + k) x) n (drop (k + 1) v) (take at l₀ ++ v)) s
-            (front_set l₀ l (at + k) x (drop (k + 1) v) (take at l₀ ++ v) room (subst (λ (m : List ℕ). Front l₀ l (at + k) m (take at l₀ ++ v)) d f))
+        after : (v : List ℕ) → length v ≡ length w → o₁.at ≡ o.at + length v
+        after v e = one.next ∙ ap (λ (n : ℕ). o.at + n) (sym e)
 
-    pub spelling_end : (n : ℕ) → n ≡ length w → n ≤ k → SymbolsPut w i at out₀ org₀ (at + n) out org
-    spelling_end n e h = record {
-      next = ap (λ (m : ℕ). at + m) e;
-      outs = fin out₀ out w (omega (arith, was.room)) (omega (arith, was.within)) was.outs;
-      orgs = fin org₀ org (replicate (length w) i) (omega (arith, was.room)) (omega (arith, was.within, length-replicate (length w) i)) was.orgs;
-    }
-      where
-        fin : (l₀ l v : List ℕ) → at ≤ length l₀ → k ≡ length v → Front l₀ l (at + k) (drop k v) (take at l₀ ++ v) → l ≡ put l₀ at v
-        fin l₀ l v g q f =
-            let e = ap (λ (m : ℕ). drop m v) q ∙ drop-length v in
-            (front_finish l₀ l v at (at + k) g (subst (λ (m : List ℕ). Front l₀ l (at + k) m (take at l₀ ++ v)) e f)).1
+        fits : (l v u : List ℕ) → o.at + length (w ++ k) ≤ length l → length v ≡ length w → length u ≡ length k → o.at + length (v ++ u) ≤ length l
+        fits l v u h e f = omega (arith, h, e, f, length-append w k, length-append v u)
 
--- the next symbol of a word, as the code reads it
-pub spelling_read : (book : List ℕ) (p k n : ℕ) → WordRoom book p → n ≡ length (word_at book p) → k < n
-    → get_or book (p + symbols_at + k) 0 ≡ get_or (word_at book p) k 0
-spelling_read book p k n r e h = word_symbol book p r k (omega arith)
+-- ---- a word
 
--- ---- its origins, the last one's put in after the others
+marks_append : (u v : List ℕ) (i : ℕ) → marks (u ++ v) i ≡ marks u i ++ marks v i
+marks_append [] v i = refl
+marks_append (x ∷ u) v i = ap (λ (ms : List Mark). record { symbol = x; origin = i } ∷ ms) (marks_append u v i)
 
-last_is : (w : List ℕ) (i j at : ℕ) (org : List ℕ) → at + length w ≤ length org
-    → last_put (put org at (replicate (length w) i)) at (at + length w) (last_position i j) ≡ put org at (origins_of (word_marks w i j))
-unfolding last_put
-last_is [] i j at org h = rw (le-ltb 1 (at + 0 - at) (omega arith))
-last_is (x ∷ []) i j at org h = rw (le-ltb 1 (at + 1 - at) (omega arith))
-last_is (x ∷ y ∷ w) i j at org h =
+marks_many : (w : List ℕ) (i : ℕ) → length (marks w i) ≡ length w
+marks_many w i = ap length (sym (marks_own w i)) ∙ marks_length w i i
+
+-- its first k symbols are written, each with the start
+module _ (w : List ℕ) (i : ℕ) (o₀ o : Outputs) (k : ℕ) (was : MarksPut (marks (take k w) i) o₀ o) where
+  module _ (room : MarksFit (marks w i) o₀) (inside : k < length w) where
+    abbrev next : List ℕ
+    next = get_or w k 0 ∷ []
+
+    more : marks (take (k + 1) w) i ≡ marks (take k w) i ++ marks next i
+    more = rw (add-one, take-suc w k 0 inside) (marks_append (take k w) next i)
+
+    fits : MarksFit (marks (take k w) i ++ marks next i) o₀
+    fits =
+        let n = ap length (sym more) ∙ marks_many (take (k + 1) w) i in
+        let l = length-take-le (k + 1) w (omega arith) in
+        let m = marks_many w i in
+        record { outs = omega (arith, n, l, m, room.outs); orgs = omega (arith, n, l, m, room.orgs) }
+
+    pub next_fits : (o.at < length o.out.now) × (o.at < length o.origins.now)
+    next_fits = let f = fit_then (marks (take k w) i) (marks next i) o₀ fits o was in (omega (arith, f.outs), omega (arith, f.orgs))
+
+    pub next_put : (o' : Outputs) → MarksPut (marks next i) o o' → MarksPut (marks (take (k + 1) w) i) o₀ o'
+    next_put o' p = rw more (put_then (marks (take k w) i) (marks next i) o₀ fits o was o' p)
+
+  -- all of them are
+  pub all_put : length w ≤ k → MarksPut (marks w i) o₀ o
+  all_put h = subst (λ (v : List ℕ). MarksPut (marks v i) o₀ o) (take_all k w h) was
+
+-- room for a word is room for its symbols
+pub word_room : (w : List ℕ) (i j : ℕ) (o : Outputs) → MarksFit (word_marks w i j) o → MarksFit (marks w i) o
+word_room w i j o f =
+    let n = marks_length w i j in
+    let m = marks_many w i in
+    record { outs = omega (arith, n, m, f.outs); orgs = omega (arith, n, m, f.orgs) }
+
+-- of one symbol, or none, that is all
+pub word_short : (w : List ℕ) (i j : ℕ) (o o' : Outputs) → length w ≤ 1 → MarksPut (marks w i) o o' → MarksPut (word_marks w i j) o o'
+word_short [] i j o o' h p = p
+word_short (x ∷ []) i j o o' h p = p
+word_short (x ∷ y ∷ w) i j o o' h p = absurd (omega arith)
+
+-- of two or more, the last one's origin
+last_is : (w : List ℕ) (i j at : ℕ) (org : List ℕ) → 1 < length w → at + length w ≤ length org
+    → set (put org at (origins_of (marks w i))) (at + length w - 1) (last_position i j) ≡ put org at (origins_of (word_marks w i j))
+last_is [] i j at org g h = absurd (omega arith)
+last_is (x ∷ []) i j at org g h = absurd (omega arith)
+last_is (x ∷ y ∷ w) i j at org g h =
     let n = length (y ∷ w) in
     let others = replicate n i in
-    let e : replicate (suc n) i ≡ others ++ (i ∷ []) = sym (replicate-append-replicate n 1 i ∙ ap (λ (m : ℕ). replicate m i) (add-one n)) in
+    let own : origins_of (marks (x ∷ y ∷ w) i) ≡ others ++ (i ∷ []) =
+    starts (x ∷ y ∷ w) ∙ sym (replicate-append-replicate n 1 i ∙ ap (λ (m : ℕ). replicate m i) (add-one n)) in
     let p : at + suc n - 1 ≡ at + length others = omega (arith, length-replicate n i) in
-    rw (lt-ltb 1 (at + suc n - at) (omega arith))
-    (ap₂ (λ (v : List ℕ) (k : ℕ). set (put org at v) k (last_position i j)) e p
+    ap₂ (λ (v : List ℕ) (k : ℕ). set (put org at v) k (last_position i j)) own p
     ∙ put_last org at others i (last_position i j) (omega arith)
-    ∙ ap (put org at) (sym (marks_origins (x ∷ y ∷ w) i j)))
+    ∙ ap (put org at) (sym (marks_origins (x ∷ y ∷ w) i j))
+  where
+    starts : (v : List ℕ) → origins_of (marks v i) ≡ replicate (length v) i
+    starts [] = refl
+    starts (z ∷ v) = ap (λ (l : List ℕ). i ∷ l) (starts v)
 
-pub word_put : (w : List ℕ) (i j at : ℕ) (out₀ org₀ : List ℕ) (at' : ℕ) (out org org' : List ℕ) {k o : ℕ} → SymbolsPut w k at out₀ org₀ at' out org
-    → org' ≡ last_put org at at' o → k ≡ i → o ≡ last_position i j → at + length w ≤ length org₀ → WordPut w i j at out₀ org₀ at' out org'
-word_put w i j at out₀ org₀ at' out org org' d e p q h = record {
-  next = d.next;
-  outs = d.outs;
-  orgs =
-      e
-      ∙ (λ z. last_put (d.orgs z) at (d.next z) (q z))
-      ∙ ap (λ (m : ℕ). last_put (put org₀ at (replicate (length w) m)) at (at + length w) (last_position i j)) p
-      ∙ last_is w i j at org₀ h;
-}
+module _ (w : List ℕ) (i j : ℕ) (o o' : Outputs) (room : MarksFit (marks w i) o) (p : MarksPut (marks w i) o o') where
+  place : o'.at - 1 ≡ o.at + length w - 1
+  place = omega (arith, p.next, marks_many w i)
+
+  pub last_bound : 0 < length w → o'.at - 1 < length o'.origins.now
+  last_bound h = omega (arith, p.next, marks_many w i, room.orgs, org_length (marks w i) o o' room p)
+
+  pub word_long : 1 < length w → (org : MutBor (List ℕ)) → org.ghost_name ≡ o'.origins.ghost_name → (last : ℕ) → last ≡ last_position i j
+      → org.now ≡ set o'.origins.now (o'.at - 1) last → MarksPut (word_marks w i j) o (record { out = o'.out; origins = org; at = o'.at })
+  word_long h org same last e q = record {
+    next = omega (arith, p.next, marks_many w i, marks_length w i j);
+    outs = p.outs ∙ ap (put o.out.now o.at) (ap symbols_of (sym (marks_own w i)) ∙ marks_symbols w i i ∙ sym (marks_symbols w i j));
+    orgs =
+        q ∙ (λ z. set (p.orgs z) (place z) (e z)) ∙ last_is w i j o.at o.origins.now h (omega (arith, marks_many w i, room.orgs));
+    same_out = p.same_out;
+    same_origins = same ∙ p.same_origins;
+  }

@@ -1,37 +1,47 @@
 -- One tape after a build: its two outcomes, as the code answers. The laws of the definition that callers cite are those of Tapes.antt.
 -- Assumes nothing.
 use Prim.Native.Nat.{ℕ, min, ◌≤◌, ◌<◌}
-use mathlib.Core.Path.{◌≡◌, sym, ◌∙◌}
-use mathlib.Core.Logic.{◌≢◌, by_cases}
+use mathlib.Core.Path.{◌≡◌, refl, sym, ◌∙◌}
+use mathlib.Core.Logic.{by_cases}
 use mathlib.Core.Bool as B
 use mathlib.Core.List.{List}
 use native.Mathlib.Omega.{arith}
 use native.Mathlib.Decide.{dec_lt}
 use borrow.Author.Tests.{le-leb, lt-leb}
 use lib.ListN.{length}
+use Rattle.std.specs.Prelude.{Result, Ok, Err}
 use Rattle.book.specs.Language.{Rules}
+use Rattle.book.specs.declared.replies.Reason.TheVariants.{NoRoom}
+use Rattle.book.specs.declared.replies.Refusal.{Refusal}
 use Rattle.stretches.specs.Candidates.{taken}
 use Rattle.stretches.specs.Output.{rewriting, symbols_of, origins_of}
 use Rattle.stretches.specs.Buffers.{onto}
 use Rattle.output.specs.Tape.{AfterTape, tape_leaves, tape_def}
-use Rattle.output.specs.Passes.{Sized, needed_past}
-use Rattle.output.specs.declared.Rewritten.{Rewritten}
+use Rattle.output.specs.Results.{rewritten}
+use Rattle.output.specs.Passes.{Sized, fits_in}
+use Rattle.output.specs.declared.Size.{Size}
 
--- what is needed past a room
+-- whether the output has room, as the code decides it
 module _ (b : Rules) (t : List ℕ) (room : ℕ) where
-  pub needed_none : length (rewriting b t) ≤ room → 0 ≡ needed_past b t room
-  unfolding needed_past
-  needed_none h = simp (le-leb _ _ h)
+  pub fits_yes : length (rewriting b t) ≤ room → Ok tt ≡ fits_in b t room
+  unfolding fits_in
+  fits_yes h = simp (le-leb _ _ h)
 
-  pub needed_all : room < length (rewriting b t) → length (rewriting b t) ≡ needed_past b t room
-  unfolding needed_past
-  needed_all h = simp (lt-leb _ _ h)
+  pub fits_no : (n : ℕ) → n ≡ length (rewriting b t) → room < n → Err (record { reason = NoRoom; place = n }) ≡ fits_in b t room
+  unfolding fits_in
+  fits_no n e h = simp (lt-leb (length (rewriting b t)) room (omega arith)) (λ i. Err (record { reason = NoRoom; place = e i }))
 
-  needed_some : needed_past b t room ≢ 0 → (needed_past b t room ≡ length (rewriting b t)) × (room < length (rewriting b t))
-  needed_some h = by_cases (dec_lt room (length (rewriting b t))) (λ g. (sym (needed_all g), g)) (λ g. absurd (h (sym (needed_none (omega arith)))))
+  -- and what its answer says
+  pub fits_ok : (r : Result (Unit {0}) Refusal) → r ≡ fits_in b t room → (v : Unit {0}) → r ≡ Ok v → length (rewriting b t) ≤ room
+  fits_ok r e v h = by_cases (dec_lt room (length (rewriting b t)))
+      (λ g. let q = fits_no (length (rewriting b t)) refl g in absurd (cc (q, e, h)))
+      (λ g. omega arith)
 
-  pub needed_fits : (n : ℕ) → n ≡ needed_past b t room → n ≡ 0 → length (rewriting b t) ≤ room
-  needed_fits n e z = by_cases (dec_lt room (length (rewriting b t))) (λ g. omega (arith, needed_all g)) (λ g. omega arith)
+  pub fits_err : (r : Result (Unit {0}) Refusal) → r ≡ fits_in b t room → (x : Refusal) → r ≡ Err x
+      → (x ≡ record { reason = NoRoom; place = length (rewriting b t) }) × (room < length (rewriting b t))
+  fits_err r e x h = by_cases (dec_lt room (length (rewriting b t)))
+      (λ g. let q = fits_no (length (rewriting b t)) refl g in (cc (q, e, h), g))
+      (λ g. let q = fits_yes (omega arith) in absurd (cc (q, e, h)))
 
 module _ (b : Rules) (t out org : List ℕ) where
   -- the two outcomes
@@ -56,18 +66,15 @@ module _ (b : Rules) (t out org : List ℕ) where
   short_origins h = simp (lt-leb _ _ h, B.and-false)
 
   -- as the code answers
-  pub tape_done : (n k : ℕ) (out' org' : List ℕ) → Sized b t n k → n ≤ length out → n ≤ length org
+  pub tape_done : (s : Size) (out' org' : List ℕ) → Sized b t s → length (rewriting b t) ≤ min (length out) (length org)
       → out' ≡ onto (symbols_of (rewriting b t)) out → org' ≡ onto (origins_of (rewriting b t)) org
-      → tape_leaves (record { reply = 0; place = 0; length = n; taken = k }) out' org' ≡ tape_def b t out org
-  tape_done n k out' org' s g h e f =
-      (λ x. tape_leaves (record { reply = 0; place = 0; length = s.lens x; taken = s.many x }) (e x) (f x))
-      ∙ sym (tape_accepted (omega (arith, s.lens)) (omega (arith, s.lens)))
+      → tape_leaves (rewritten (Ok s)) out' org' ≡ tape_def b t out org
+  tape_done s out' org' z h e f =
+      (λ x. tape_leaves (record { reply = 0; place = 0; length = z.lens x; taken = z.many x }) (e x) (f x))
+      ∙ sym (tape_accepted (omega arith) (omega arith))
 
-  pub tape_no_room : (n : ℕ) (r : Rewritten) → n ≡ needed_past b t (min (length out) (length org)) → n ≢ 0
-      → r ≡ record { reply = 15; place = n; length = 0; taken = 0 }
-      → tape_leaves r out org ≡ tape_def b t out org
-  tape_no_room n r e h f =
-      let z = needed_some b t (min (length out) (length org)) (λ q. h (e ∙ q)) in
-      (λ x. tape_leaves (f x) out org)
-      ∙ (λ x. tape_leaves (record { reply = 15; place = (e ∙ z.0) x; length = 0; taken = 0 }) out org)
+  pub tape_no_room : (x : Refusal) → (x ≡ record { reason = NoRoom; place = length (rewriting b t) }) × (min (length out) (length org) < length (rewriting b t))
+      → tape_leaves (rewritten (Err x)) out org ≡ tape_def b t out org
+  tape_no_room x z =
+      (λ i. tape_leaves (rewritten (Err (z.0 i))) out org)
       ∙ sym (by_cases (dec_lt (length out) (length (rewriting b t))) short_out (λ g. short_origins (omega (arith, z.1))))

@@ -1,21 +1,20 @@
 // REWRITE's forward passes over one tape.
 #![tactic(auto)]
 
-ghost use Rattle.std.specs.Prelude.{◌≡◌, min};
-ghost use Rattle.book.specs.Reading.{book_of};
+ghost use Rattle.std.specs.Prelude.{◌≡◌};
 ghost use Rattle.book.specs.Language.{rules_in};
 ghost use Rattle.output.specs.Tape.{tape_leaves, tape_def};
-ghost use Rattle.stretches.specs.Ready.{Outlined, Lent, Ready};
-ghost use Rattle.output.specs.Passes.{needed_past};
+ghost use Rattle.output.specs.Results.{rewritten};
 
-use crate::passes::{forward, measure};
-use crate::words::{longest_output, longest_word};
-use book::outline::{MASKS, place_rules};
+use crate::passes::Writer;
+use book::outline::place_rules;
+use book::replies::Refusal;
+use stretches::pass::Pass;
 
 mod passes; // passes.rt: measuring and writing the output, position after position
-mod words; // words.rt: the words of the rules, read from their records
+mod words; // words.rt: both outputs, as far as they are written
 
-// REWRITE's answer.
+// REWRITE's answer, in document 01's numbers: the C interface has the same fields.
 #[derive(Clone, Copy)]
 pub struct Rewritten {
     // 0 for accepted, else the refusal's number, 1 to 15: callers test it before they read any buffer.
@@ -28,115 +27,50 @@ pub struct Rewritten {
     pub taken: usize,
 }
 
-// Refused with 15 and nothing written where an output buffer is too short.
-fn no_room(length: usize) -> Rewritten
-    ensures { result ≡ record { reply = 15; place = length; length = 0; taken = 0 } }
-{
-    Rewritten {
-        reply: 15,
-        place: length,
-        length: 0,
-        taken: 0,
+// "REWRITE the output length and the number of stretches taken".
+#[derive(Clone, Copy)]
+pub struct Size {
+    // How many symbols, and origins, stand at the front of both outputs: at most the length of each.
+    pub length: usize,
+    // At most one a position of the tape, its end among them.
+    pub taken: usize,
+}
+
+// Each such conversion names the fields that C has, of its own type, once.
+impl From<Result<Size, Refusal>> for Rewritten {
+    ghost from_gives = { λ r w. w ≡ rewritten r };
+
+    fn from(r: Result<Size, Refusal>) -> Rewritten {
+        match r {
+            Ok(size) => Rewritten {
+                reply: 0,
+                place: 0,
+                length: size.length,
+                taken: size.taken,
+            },
+            Err(refusal) => Rewritten {
+                reply: refusal.reason.number(),
+                place: refusal.place,
+                length: 0,
+                taken: 0,
+            },
+        }
     }
 }
 
-// The room for an output is that of the shorter of its two buffers.
-fn room_of(out: usize, origins: usize) -> usize
-    ensures { result ≡ min out origins }
-{
-    if origins < out {
-        return origins;
-    }
-    out
-}
-
-// The symbols that the output needs where it is longer than the room, else 0. It is measured only where the longest possible output is longer.
-fn needed(
-    book: &[u8],
-    places: &[u16; book::STATES],
-    masks: &[u64; MASKS],
-    words: &[u16; book::RULES],
-    rules: usize,
-    tape: &[u8],
-    rows: &[u8],
-    sets: &[u64],
-    scratch: &[u8],
-    room: usize,
-) -> usize
-    requires lent { Lent book.now rules places.now masks.now words.now }
-    requires ready { Ready book.now tape.now rows.now sets.now scratch.now }
-    ensures { result ≡ needed_past (rules_in book.now) tape.now room }
-{
-    let word = longest_word(book, words, rules);
-    if longest_output(masks, tape.len(), word) <= room {
-        return 0;
-    }
-    let length = measure(book, places, masks, words, rules, tape, rows, sets, scratch);
-    if length <= room {
-        return 0;
-    }
-    length
-}
-
-// Writes where there is room.
-fn write_if_room(
-    book: &[u8],
-    places: &[u16; book::STATES],
-    masks: &[u64; MASKS],
-    words: &[u16; book::RULES],
-    rules: usize,
-    tape: &[u8],
-    rows: &[u8],
-    sets: &[u64],
-    scratch: &[u8],
-    out: &mut [u8],
-    origins: &mut [u16],
-) -> Rewritten
-    requires lent { Lent book.now rules places.now masks.now words.now }
-    requires ready { Ready book.now tape.now rows.now sets.now scratch.now }
-    ensures { tape_leaves result out.new origins.new
-        ≡ tape_def (rules_in book.now) tape.now out.old origins.old }
-{
-    let room = room_of(out.len(), origins.len());
-    let symbols = needed(
-        book, places, masks, words, rules, tape, rows, sets, scratch, room,
-    );
-    if symbols != 0 {
-        return no_room(symbols);
-    }
-    let size = forward(
-        book, places, masks, words, rules, tape, rows, sets, scratch, out, origins,
-    );
-    Rewritten {
-        reply: 0,
-        place: 0,
-        length: size.length,
-        taken: size.taken,
-    }
-}
-
-// One tape after a build and its backward pass. Public, and with a `requires`: who rewrites calls it after a build, once a tape, with the outline
-// that he has from the book.
-pub fn rewrite_ready(
-    book: &[u8],
-    places: &[u16; book::STATES],
-    masks: &[u64; MASKS],
-    rules: usize,
-    tape: &[u8],
-    rows: &[u8],
-    sets: &[u64],
-    scratch: &[u8],
-    out: &mut [u8],
-    origins: &mut [u16],
-) -> Rewritten
-    requires outlined { Outlined (book_of book.now) rules places.now masks.now }
-    requires ready { Ready book.now tape.now rows.now sets.now scratch.now }
-    ensures { tape_leaves result out.new origins.new
-        ≡ tape_def (rules_in book.now) tape.now out.old origins.old }
+// One tape after a build and its backward pass: refused with 15 and nothing written where the shorter of the two outputs has no room. Public: who
+// rewrites calls it after a build, once a tape, with the pass that he has from the book.
+pub fn rewrite_ready(pass: &Pass, out: &mut [u8], origins: &mut [u16]) -> Result<Size, Refusal>
+    ensures { tape_leaves (rewritten result) out.new origins.new
+        ≡ tape_def (rules_in pass.now.walk.outline.states.book.now) pass.now.walk.tape.now out.old origins.old }
 {
     let mut words = [0u16; book::RULES];
-    place_rules(book, &mut words);
-    write_if_room(
-        book, places, masks, &words, rules, tape, rows, sets, scratch, out, origins,
-    )
+    place_rules(pass.walk.outline.states.book, &mut words);
+    let writer = Writer {
+        pass: *pass,
+        words: &words,
+    };
+    let room = usize::min(out.len(), origins.len());
+    writer.fits(room)?;
+    Ok(writer.forward(out, origins))
 }

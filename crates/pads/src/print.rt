@@ -1,16 +1,18 @@
-// The lines that the program prints: W, O, C and X, through a text that is written out when it is full.
-ghost use Rattle.std.specs.Prelude.{◌≡◌, ◌*◌, ◌≤◌, ◌<◌, length, IfOk};
-ghost use Rattle.stretches.specs.Account.{line_length};
+// The lines that the program prints: W, O, C and X.
+ghost use Rattle.std.specs.Prelude.{◌≡◌};
 ghost use Rattle.pads.specs.Digits.{digit_of};
 
 use book::LAST_SYMBOL;
+use book::replies::Refusal;
 use rewriter::LINE_WORDS;
 use std::io;
+use std::io::Write;
+use text::Text;
 
 // The symbol of the first letter.
 pub(crate) const LETTERS: u8 = 10;
 
-// The character of a symbol.
+// The character of a symbol, by hand as its other direction: the library's `from_digit` gives a `char`, and none for 32 (`digit_of`).
 #[tactic(auto, unfolding(crate::specs::Digits::digit_of))]
 fn digit(s: u8) -> u8
     ensures { result ≡ digit_of s }
@@ -22,129 +24,56 @@ fn digit(s: u8) -> u8
     }
 }
 
-fn wide(x: u16) -> u64 {
-    x as u64
-}
-
-// Each number with a blank before it.
-fn put_numbers(rt: &impl Print, text: &mut [u8], used: usize, numbers: &[u16]) -> io::Result<usize>
-    requires { used < length text.old }
-    ensures { IfOk result (λ next. next < length text.old) }
-{
-    let mut at = used;
+// Each number with a blank before it, and the line's end. They are most of what is printed, so they go past the formatter.
+fn put_numbers(text: &mut Text<'_, impl Print>, numbers: &[u16]) -> io::Result<()> {
     for number in numbers {
-        at = text::put(rt, text, at, b' ')?;
-        at = text::put_number(rt, text, at, wide(*number))?;
+        text.put(b' ')?;
+        text.put_number(u64::from(*number))?;
     }
-    Ok(at)
-}
-
-fn put_symbols(rt: &impl Print, text: &mut [u8], used: usize, symbols: &[u8]) -> io::Result<usize>
-    requires { used < length text.old }
-    ensures { IfOk result (λ next. next < length text.old) }
-{
-    let mut at = used;
-    for s in symbols {
-        at = text::put(rt, text, at, digit(*s))?;
-    }
-    Ok(at)
-}
-
-// Two numbers, a blank between them.
-fn put_pair(rt: &impl Print, text: &mut [u8], used: usize, a: u64, b: u64) -> io::Result<usize>
-    requires { used < length text.old }
-    ensures { IfOk result (λ next. next < length text.old) }
-{
-    let mut at = text::put_number(rt, text, used, a)?;
-    at = text::put(rt, text, at, b' ')?;
-    text::put_number(rt, text, at, b)
+    text.put(b'\n')
 }
 
 // W: output length, stretches taken, symbols.
-fn put_w(rt: &impl Print, text: &mut [u8], used: usize, taken: u64, out: &[u8]) -> io::Result<usize>
-    requires { used < length text.old }
-    ensures { IfOk result (λ next. next < length text.old) }
-{
-    let mut at = text::put_all(rt, text, used, b"W ")?;
-    at = put_pair(rt, text, at, out.len() as u64, taken)?;
-    at = text::put(rt, text, at, b' ')?;
-    if out.len() == 0 {
-        return text::put_all(rt, text, at, b"-\n");
+fn put_w(text: &mut Text<'_, impl Print>, taken: usize, out: &[u8]) -> io::Result<()> {
+    write!(text, "W {} {taken} ", out.len())?;
+    if out.is_empty() {
+        text.put(b'-')?;
     }
-    at = put_symbols(rt, text, at, out)?;
-    text::put(rt, text, at, b'\n')
+    for s in out {
+        text.put(digit(*s))?;
+    }
+    text.put(b'\n')
 }
 
 // O: origins.
-fn put_o(rt: &impl Print, text: &mut [u8], used: usize, origins: &[u16]) -> io::Result<usize>
-    requires { used < length text.old }
-    ensures { IfOk result (λ next. next < length text.old) }
-{
-    if origins.len() == 0 {
-        return text::put_all(rt, text, used, b"O -\n");
+fn put_o(text: &mut Text<'_, impl Print>, origins: &[u16]) -> io::Result<()> {
+    if origins.is_empty() {
+        return text.put_all(b"O -\n");
     }
-    let mut at = text::put(rt, text, used, b'O')?;
-    at = put_numbers(rt, text, at, origins)?;
-    text::put(rt, text, at, b'\n')
+    text.put(b'O')?;
+    put_numbers(text, origins)
 }
 
 pub(crate) fn put_output(
-    rt: &impl Print,
-    text: &mut [u8],
-    used: usize,
-    taken: u64,
+    text: &mut Text<'_, impl Print>,
+    taken: usize,
     out: &[u8],
     origins: &[u16],
-) -> io::Result<usize>
-    requires { used < length text.old }
-    ensures { IfOk result (λ next. next < length text.old) }
-{
-    let at = put_w(rt, text, used, taken, out)?;
-    put_o(rt, text, at, origins)
+) -> io::Result<()> {
+    put_w(text, taken, out)?;
+    put_o(text, origins)
 }
 
-// C: the words of one candidate.
-fn put_c(rt: &impl Print, text: &mut [u8], used: usize, words: &[u16]) -> io::Result<usize>
-    requires { used < length text.old }
-    ensures { IfOk result (λ next. next < length text.old) }
-{
-    let mut at = text::put(rt, text, used, b'C')?;
-    at = put_numbers(rt, text, at, words)?;
-    text::put(rt, text, at, b'\n')
-}
-
-pub(crate) fn put_account(
-    rt: &impl Print,
-    text: &mut [u8],
-    used: usize,
-    lines: &[u16],
-    candidates: usize,
-) -> io::Result<usize>
-    requires used_in_bounds { used < length text.old }
-    requires candidates_in_bounds { line_length * candidates ≤ length lines.now }
-    ensures { IfOk result (λ next. next < length text.old) }
-{
-    let mut at = used;
-    for i in 0..candidates {
-        let from = i * LINE_WORDS;
-        let to = from + LINE_WORDS;
-        at = put_c(rt, text, at, &lines[from..to])?;
+// C: the words of each candidate.
+pub(crate) fn put_account(text: &mut Text<'_, impl Print>, lines: &[u16]) -> io::Result<()> {
+    for words in lines.chunks_exact(LINE_WORDS) {
+        text.put(b'C')?;
+        put_numbers(text, words)?;
     }
-    Ok(at)
+    Ok(())
 }
 
 // X: reply number, place.
-pub(crate) fn put_refusal(
-    rt: &impl Print,
-    text: &mut [u8],
-    used: usize,
-    reply: u64,
-    place: u64,
-) -> io::Result<usize>
-    requires { used < length text.old }
-    ensures { IfOk result (λ next. next < length text.old) }
-{
-    let mut at = text::put_all(rt, text, used, b"X ")?;
-    at = put_pair(rt, text, at, reply, place)?;
-    text::put(rt, text, at, b'\n')
+pub(crate) fn put_refusal(text: &mut Text<'_, impl Print>, refusal: Refusal) -> io::Result<()> {
+    writeln!(text, "X {} {}", refusal.reason.number(), refusal.place)
 }

@@ -23,7 +23,7 @@ use Rattle.stretches.proofs.Counts.{words_length, symbols_length, origins_length
 use Rattle.stretches.proofs.Lists.{by_test}
 use Rattle.output.specs.Tape.{AfterTape, tape_def}
 use Rattle.lines.specs.Listing.{AfterLines, words_needed, lines_def}
-use Rattle.rewriter.specs.declared.Refusal.{Refusal}
+use Rattle.rewriter.specs.Replies.{Refusal}
 use Rattle.rewriter.specs.Opening.{Symbols}
 use Rattle.rewriter.specs.Replies.{early, AfterReady, ready_def, AfterRewrite, rewrite_leaves, rewrite_def, AfterAccount, account_leaves, account_def}
 use Rattle.rewriter.specs.Races.{Lent, rewrite_call, account_call, Room, OutputRoom, AccountRoom, output_of, origins_in, words_of}

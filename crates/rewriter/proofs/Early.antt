@@ -1,15 +1,13 @@
 -- The refusals before anything is built: each way down their order gives what the definition says, and a call that passes them all has an
 -- accepted book, a tape of symbols that is not too long, and buffers that are long enough. Assumes nothing.
-use Prim.Native.Nat.{ℕ, zero, suc, ◌+◌, ◌≤◌, ◌<◌}
-use mathlib.Core.Path.{◌≡◌, refl, sym, ap}
+use Prim.Native.Nat.{ℕ, zero, suc, ◌≤◌, ◌<◌}
+use mathlib.Core.Path.{◌≡◌, refl, sym, ap, ◌∙◌}
 use mathlib.Core.List.{List, [], ◌∷◌}
 use mathlib.Core.Bool.{Bool, true, false, cond, not, ◌||◌, or-true}
-use native.Mathlib.Numerals.{add-one}
 use native.Mathlib.Omega.{arith}
-use native.Mathlib.Decide.{ℕ_discrete}
+use native.Mathlib.Decide.{ℕ_discrete, dec_lt}
 use lib.Dec.{leb, ltb, eqb}
-use lib.ListN.{length, drop, get_or, drop_of_length-le}
-use lib.Seq.{drop-cons}
+use lib.ListN.{length}
 use borrow.Author.Tests.{eq-eqb, ne_eqb, lt-ltb, le-ltb, ltb-true, ltb-false, le-leb, lt-leb, leb-false}
 use Rattle.book.specs.Format.{symbol_count}
 use Rattle.book.specs.Reading.{check_def}
@@ -19,21 +17,41 @@ use Rattle.stretches.specs.Buffers.{longest_tape}
 use Rattle.stretches.specs.Lists.{greatest}
 use Rattle.rewriter.specs.Replies.{first_bad, refusal, early}
 use Rattle.rewriter.specs.Opening.{Symbols, tape_refusal}
-use Rattle.rewriter.specs.declared.Refusal.{Refusal}
+use Rattle.rewriter.specs.Replies.{Refusal}
+use Rattle.std.specs.Prelude.{Option, Some, None, MatchOption, position, nat_le}
+use Rattle.std.specs.List.{position_or_len}
 use Rattle.stretches.proofs.Greatest.{greatest_all}
 
--- the first bad symbol: here, later, nowhere
-pub bad_here : (t : List ℕ) (i : ℕ) → i < length t → symbol_count ≤ get_or t i 0 → first_bad (drop i t) ≡ 0
+-- the first bad symbol is the one that a search finds
+bad_first : (t : List ℕ) → first_bad t ≡ position_or_len (λ x. nat_le symbol_count x) t
 unfolding first_bad
-bad_here t i h g = rw (drop-cons t i 0) (simp (le-ltb _ _ g))
+bad_first [] = refl
+bad_first (x ∷ t) = by (dec_lt x symbol_count) (bad_first t)
+  where
+    by : Dec (x < symbol_count) → first_bad t ≡ position_or_len (λ y. nat_le symbol_count y) t
+        → first_bad (x ∷ t) ≡ position_or_len (λ y. nat_le symbol_count y) (x ∷ t)
+    by (yes h) e = simp (lt-ltb _ _ h, lt-leb _ _ h) (omega arith)
+    by (no h) e = simp (le-ltb x symbol_count (omega arith), le-leb symbol_count x (omega arith))
 
-pub bad_later : (t : List ℕ) (i : ℕ) → i < length t → get_or t i 0 < symbol_count → first_bad (drop i t) ≡ first_bad (drop (i + 1) t) + 1
+bad_most : (t : List ℕ) → first_bad t ≤ length t
 unfolding first_bad
-bad_later t i h g = rw (add-one i, drop-cons t i 0, add-one (first_bad (drop (suc i) t))) (simp (lt-ltb _ _ g))
+bad_most [] = omega arith
+bad_most (x ∷ t) = by (ltb x symbol_count) (bad_most t)
+  where
+    by : (c : Bool) → first_bad t ≤ length t → cond c (suc (first_bad t)) 0 ≤ suc (length t)
+    by true h = omega arith
+    by false h = omega arith
 
-pub bad_end : (t : List ℕ) (i : ℕ) → length t ≤ i → first_bad (drop i t) ≡ 0
-unfolding first_bad
-bad_end t i h = rw drop_of_length-le
+pub bad_found : (t : List ℕ) (r : Option ℕ) → r ≡ position (λ x. nat_le symbol_count x) t
+    → MatchOption r (first_bad t ≡ length t) (λ i. (i ≡ first_bad t) × (i < length t))
+bad_found t r e = by (dec_lt (first_bad t) (length t))
+  where
+    is : r ≡ cond (ltb (first_bad t) (length t)) (Some (first_bad t)) None
+    is = e ∙ ap (λ (n : ℕ). cond (ltb n (length t)) (Some n) None) (sym (bad_first t))
+
+    by : Dec (first_bad t < length t) → MatchOption r (first_bad t ≡ length t) (λ i. (i ≡ first_bad t) × (i < length t))
+    by (yes h) = rw (is, lt-ltb _ _ h) (refl, h)
+    by (no h) = (let m = bad_most t in rw (is, le-ltb (first_bad t) (length t) (omega arith)) (omega arith))
 
 -- no symbol is bad
 head_good : (test : Bool) (n m : ℕ) → suc n ≤ cond test (suc m) 0 → (test ≡ true) × (n ≤ m)

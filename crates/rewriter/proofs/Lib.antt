@@ -2,7 +2,7 @@
 pub mod Early
 pub mod Backwards
 pub mod MakeReady
--- REWRITE and ACCOUNT as wholes, and SHOW.
+-- REWRITE and ACCOUNT as wholes, and as results; and SHOW.
 pub mod Whole
 pub mod Showing
 pub mod ShownAfter

@@ -1,7 +1,9 @@
 -- What REWRITE and ACCOUNT share leaves everything ready: the ways of `ready_def`, in their order, and from reply 0 all that the forward passes
 -- stand on. The number that the backward pass walks to is the number of the right set there. Assumes nothing.
 use Prim.Native.Nat.{ℕ, zero, suc, ◌+◌, ◌≤◌}
-use mathlib.Core.Path.{◌≡◌, sym, ap, ap₂, ◌∙◌, subst}
+use mathlib.Core.Path.{◌≡◌, refl, sym, ap, ap₂, ◌∙◌, subst}
+use mathlib.Core.Bool.{Bool, true, false, cond, ◌||◌}
+use lib.Dec.{ltb}
 use mathlib.Core.List.{List, [], ◌∷◌}
 use native.Mathlib.Omega.{arith}
 use native.Mathlib.Nat.{zero-add}
@@ -11,16 +13,15 @@ use lib.ListN.{length, drop, get_or}
 use borrow.Author.Tests.{eq-eqb, ne_eqb}
 use Rattle.book.specs.Reading.{Book, check_def, book_of}
 use Rattle.sets.specs.Sets.{right_at}
-use Rattle.sets.specs.Workspace.{AfterBuild, build_leaves, build_def}
+use Rattle.sets.specs.Numbering.{most_sets}
+use Rattle.sets.specs.Workspace.{AfterBuild, row_bytes, set_words, left_table, right_table, unchanged, cleared, filled, numbered, build_leaves, build_def}
 use Rattle.sets.specs.Tables.{right_set, Tape}
 use Rattle.sets.specs.declared.Built.{Built}
 use Rattle.sets.proofs.Tables.{tables, right_walk, right_number_lem}
-use Rattle.rewriter.specs.Replies.{refusal, early, right_numbers, AfterReady, ready_leaves, ready_def}
+use Rattle.rewriter.specs.Replies.{Refusal, refusal, early, right_numbers, AfterReady, ready_leaves, ready_def}
 use Rattle.stretches.specs.Buffers.{onto}
 use Rattle.stretches.specs.Ready.{Ready}
-use Rattle.rewriter.specs.Opening.{opened, Symbols, right_number, right_all}
-use Rattle.rewriter.specs.declared.Refusal.{Refusal}
-use Rattle.rewriter.specs.declared.refusals.Opened.{Opened}
+use Rattle.rewriter.specs.Opening.{Symbols, right_number, right_all}
 use Rattle.stretches.proofs.Onto.{onto_length, onto_at}
 use Rattle.rewriter.proofs.Early.{Admitted, admitted}
 use Rattle.rewriter.proofs.Backwards.{length_up, at_up, same_up}
@@ -66,27 +67,38 @@ module _ (book tape rows sets scratch : List ℕ) where
   ready_is z y = simp (eq-eqb opening.reply 0 z, eq-eqb building.answer.reply 0 y)
 
   -- the code's three ways out, by what its callees gave: refused before anything is built, not built, ready
-  module _ (o : Opened) (is : o ≡ opened opening (check_def book).rules) where
-    reply_is : o.refusal.reply ≡ opening.reply
-    reply_is = ap (λ (x : Opened). x.refusal.reply) is
+  module _ (r : Refusal) (is : r ≡ opening) where
+    pub leaves_refused : (r.reply ≡ 0 → ⊥) → ready_leaves r rows sets scratch ≡ ready_def book tape rows sets scratch
+    leaves_refused h = ap (λ (x : Refusal). ready_leaves x rows sets scratch) is ∙ sym (refused_is (λ z. h (ap (λ (x : Refusal). x.reply) is ∙ z)))
 
-    pub rules_are : o.rules ≡ (check_def book).rules
-    rules_are = ap (λ (x : Opened). x.rules) is
+  -- what a call has that nothing refuses
+  pub opened : refusal 0 0 ≡ opening → Admitted book tape (length rows) (length sets) (length scratch)
+  opened is = admitted book tape (length rows) (length sets) (length scratch) (sym (ap (λ (x : Refusal). x.reply) is))
 
-    pub leaves_refused : (o.refusal.reply ≡ 0 → ⊥) → ready_leaves o.refusal rows sets scratch ≡ ready_def book tape rows sets scratch
-    leaves_refused h = ap (λ (x : Opened). ready_leaves x.refusal rows sets scratch) is ∙ sym (refused_is (λ z. h (reply_is ∙ z)))
-
-    pub not_refused : o.refusal.reply ≡ 0 → opening.reply ≡ 0
-    not_refused z = sym reply_is ∙ z
+  -- a refusal of the build of an accepted book has the place 0
+  unbuilt_place : (check_def book).reply ≡ 0 → building.answer.place ≡ 0
+  unfolding build_def numbered
+  unbuilt_place z =
+      simp (eq-eqb _ _ z)
+      (by (ltb (length rows) row_bytes || ltb (length sets) set_words)
+      (ltb most_sets (length (left_table (book_of book)).sets)) (ltb most_sets (length (right_table (book_of book)).sets)))
+    where
+      by : (a b c : Bool) → (cond a (unchanged 11 0 rows sets) (cond b (cleared 13 rows sets) (cond c (cleared 14 rows sets)
+          (filled (left_table (book_of book)) (right_table (book_of book)) rows sets)))).answer.place ≡ 0
+      by true b c = refl
+      by false true c = refl
+      by false false true = refl
+      by false false false = refl
 
   module _ (z : opening.reply ≡ 0) where
     pub opening_admitted : Admitted book tape (length rows) (length sets) (length scratch)
     opening_admitted = admitted book tape (length rows) (length sets) (length scratch) z
 
     module _ (b : Built) (R S : List ℕ) (as_built : build_leaves b R S ≡ building) where
-      pub leaves_unbuilt : (b.reply ≡ 0 → ⊥) → ready_leaves (refusal b.reply 0) R S scratch ≡ ready_def book tape rows sets scratch
+      pub leaves_unbuilt : (b.reply ≡ 0 → ⊥) → ready_leaves (refusal b.reply b.place) R S scratch ≡ ready_def book tape rows sets scratch
       leaves_unbuilt h =
-          ap (λ (x : AfterBuild). ready_leaves (refusal x.answer.reply 0) x.rows x.sets scratch) as_built
+          ap (λ (x : AfterBuild). ready_leaves (refusal x.answer.reply x.answer.place) x.rows x.sets scratch) as_built
+          ∙ ap (λ (p : ℕ). ready_leaves (refusal building.answer.reply p) building.rows building.sets scratch) (unbuilt_place opening_admitted.accepted)
           ∙ sym (unbuilt_is z (λ y. h (ap (λ (x : AfterBuild). x.answer.reply) as_built ∙ y)))
 
       pub leaves_ready : b.reply ≡ 0 → (X : List ℕ) → X ≡ onto (right_all R tape) scratch

@@ -22,7 +22,7 @@ use Rattle.stretches.proofs.Lists.{by_test}
 use Rattle.output.specs.Tape.{AfterTape, tape_leaves, tape_def}
 use Rattle.output.specs.declared.Rewritten.{Rewritten}
 use Rattle.output.proofs.Tapes.{tape_front, tape_front_origins}
-use Rattle.rewriter.specs.declared.Refusal.{Refusal}
+use Rattle.rewriter.specs.Replies.{Refusal}
 use Rattle.rewriter.specs.Replies.{first_bad, refusal, early, right_numbers, AfterReady, ready_leaves, ready_def, AfterRewrite, rewrite_leaves, rewrite_from}
 use Rattle.rewriter.specs.Replies.{rewrite_def}
 use Rattle.rewriter.specs.Opening.{Symbols, right_all, tape_refusal, tape_tests, AfterOpening, opens, open_def}

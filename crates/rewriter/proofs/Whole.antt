@@ -13,7 +13,7 @@ use Rattle.stretches.specs.Ready.{Outlined}
 use Rattle.rewriter.specs.Replies.{AfterReady, ready_leaves, ready_def, rewrite_leaves, rewrite_from, rewrite_def, account_leaves, account_from, account_def}
 use Rattle.output.specs.Tape.{AfterTape, tape_leaves, tape_def}
 use Rattle.lines.specs.Listing.{AfterLines, lines_leave, lines_def}
-use Rattle.rewriter.specs.declared.Refusal.{Refusal}
+use Rattle.rewriter.specs.Replies.{Refusal}
 use Rattle.output.specs.declared.Rewritten.{Rewritten}
 use Rattle.lines.specs.declared.Accounted.{Accounted}
 

@@ -1,17 +1,18 @@
--- What the functions before the forward passes hand on, for their contracts: the refusal with the number of the book's rules, the greatest symbol,
--- and the numbers of the right sets as the code walks to them. What the refusals and the numbers are is `early` and `right_numbers` of Replies.
-use Rattle.std.specs.Prelude.{ℕ, suc, ◌<◌, List, map, cond, leb, ltb, eqb, length, drop, get_or}
+-- What the functions before the forward passes hand on, for their contracts: a result's refusal, the refusals of a tape, and the numbers of the right
+-- sets as the code walks to them. What the refusals and the numbers are is `early` and `right_numbers` of Replies.
+use Rattle.std.specs.Prelude.{ℕ, suc, ◌<◌, List, map, cond, leb, ltb, eqb, length, drop, get_or, Result}
 use Rattle.book.specs.Format.{symbol_count}
 use Rattle.book.specs.Language.{up_from}
+use Rattle.book.specs.Refusals.{reply_of, place_of}
+use Rattle.book.specs.declared.replies.Refusal as declared
 use Rattle.sets.specs.Sets.{before}
 use Rattle.sets.specs.Tables.{right_entry}
 use Rattle.stretches.specs.Buffers.{longest_tape, onto}
-use Rattle.rewriter.specs.Replies.{first_bad, refusal}
-use Rattle.rewriter.specs.declared.Refusal.{Refusal}
-use Rattle.rewriter.specs.declared.refusals.Opened.{Opened}
+use Rattle.rewriter.specs.Replies.{Refusal, first_bad, refusal}
 
-abbrev pub opened : Refusal → ℕ → Opened
-opened refusal rules = record { refusal = refusal; rules = rules }
+-- a result's refusal: its number and place, both 0 where there is none
+abbrev pub refusal_of : {A : Type 0} → Result A declared.Refusal → Refusal
+refusal_of r = refusal (reply_of r) (place_of r)
 
 -- no symbol is refused with 10
 abbrev pub Symbols : List ℕ → Type 0

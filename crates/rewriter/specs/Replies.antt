@@ -9,7 +9,6 @@ use Rattle.sets.specs.Workspace.{AfterBuild, row_bytes, set_words, right_table, 
 use Rattle.stretches.specs.Buffers.{longest_tape, onto}
 use Rattle.output.specs.Tape.{AfterTape, tape_def}
 use Rattle.lines.specs.Listing.{AfterLines, lines_def}
-use Rattle.rewriter.specs.declared.Refusal.{Refusal}
 use Rattle.output.specs.declared.Rewritten.{Rewritten}
 use Rattle.lines.specs.declared.Accounted.{Accounted}
 
@@ -17,6 +16,11 @@ use Rattle.lines.specs.declared.Accounted.{Accounted}
 unfoldable pub first_bad : List ℕ → ℕ
 first_bad [] = 0
 first_bad (x ∷ xs) = cond (ltb x symbol_count) (suc (first_bad xs)) 0
+
+-- "Reply numbers": No. and Place
+pub record Refusal : Type 0 where
+  pub reply : ℕ
+  pub place : ℕ
 
 abbrev pub refusal : ℕ → ℕ → Refusal
 refusal reply place = record { reply = reply; place = place }

@@ -1,16 +1,18 @@
-// What REWRITE and ACCOUNT share after the refusals: outline, build, backward pass; and what is left of it for one tape after a build.
-ghost use Rattle.std.specs.Prelude.{◌≡◌, [], ◌≤◌, ◌<◌, length};
+// What REWRITE and ACCOUNT share after the refusals: build and backward pass; and what is left of it for one tape after a build.
+ghost use Rattle.std.specs.Prelude.{◌≡◌, ◌≤◌, ◌<◌, length};
 ghost use Rattle.sets.specs.Workspace.{row_bytes};
-ghost use Rattle.book.specs.Format.{most_states, pad};
-ghost use Rattle.book.specs.Reading.{book_of};
-ghost use Rattle.book.specs.Outline.{mask_count, Placed, Masked};
 ghost use Rattle.stretches.specs.Buffers.{onto};
-ghost use Rattle.rewriter.specs.Replies.{refusal, early, ready_leaves, ready_def};
-ghost use Rattle.rewriter.specs.Opening.{Symbols, right_all, opens, open_def};
+ghost use Rattle.rewriter.specs.Replies.{early, ready_leaves, ready_def};
+ghost use Rattle.book.specs.Reading.{check_def, book_of};
+ghost use Rattle.book.specs.Outline.{Placed, Masked};
+ghost use Rattle.stretches.specs.Ready.{Ready};
+ghost use Rattle.rewriter.specs.Opening.{refusal_of, Symbols, right_all, opens, open_def};
 
-use super::Refusal;
 use super::refusals::of_tape;
-use book::outline::{MASKS, outline_of};
+use book::outline::{MASKS, Outline};
+use book::replies::{Reason, Refusal};
+use stretches::pass::Pass;
+use stretches::walk::Walk;
 
 // The backward pass: the number of the right set at each place of the tape, from 0 at its end, by the right rows.
 pub(crate) fn backward(tape: &[u8], rows: &[u8], scratch: &mut [u8])
@@ -19,57 +21,70 @@ pub(crate) fn backward(tape: &[u8], rows: &[u8], scratch: &mut [u8])
     requires symbols { Symbols tape.now }
     ensures { scratch.new ≡ onto (right_all rows.now tape.now) scratch.old }
 {
-    let mut i = tape.len();
     let mut number: u8 = 0;
-    scratch[i] = 0;
-    while 0 < i {
-        i -= 1;
+    scratch[tape.len()] = 0;
+    for i in (0..tape.len()).rev() {
         number = sets::entries::right_entry(rows, number, tape[i]);
         scratch[i] = number;
     }
 }
 
-// The replies of the build, 13 and 14, where none came before them; after 0 the workspace holds the book's two automata, and the scratch the numbers
-// of the tape's right sets. The outline of the book, by which it is built, is put into two arrays that are all 0: the forward passes need it too.
+// The replies of the build, 13 and 14, where none came before them; where it is not refused the workspace holds the book's two automata, and the scratch
+// the numbers of the tape's right sets.
 pub(crate) fn make_ready(
-    book: &[u8],
+    outline: &Outline,
     tape: &[u8],
-    places: &mut [u16; book::STATES],
-    masks: &mut [u64; MASKS],
     rows: &mut [u8],
     sets: &mut [u64],
     scratch: &mut [u8],
-) -> u8
-    requires scratch_value { (early book.now tape.now (length rows.old) (length sets.old) (length scratch.old)).reply ≡ 0 }
-    requires places_value { (places.old ≡ pad most_states []) × (masks.old ≡ pad mask_count []) }
-    ensures scratch_after { ready_leaves (refusal result 0) rows.new sets.new scratch.new
-        ≡ ready_def book.now tape.now rows.old sets.old scratch.old }
-    ensures placed { Placed (book_of book.now).states places.new × Masked (book_of book.now).states masks.new }
+) -> Result<(), Refusal>
+    requires { (early outline.now.states.book.now tape.now (length rows.old) (length sets.old) (length scratch.old)).reply ≡ 0 }
+    ensures { ready_leaves (refusal_of result) rows.new sets.new scratch.new
+        ≡ ready_def outline.now.states.book.now tape.now rows.old sets.old scratch.old }
 {
-    outline_of(book, places, masks);
-    let built = sets::number_both(book, places, masks, rows, sets);
-    if built.reply != 0 {
-        return built.reply;
-    }
+    sets::number_both(outline, rows, sets)?;
     backward(tape, rows, scratch);
-    0
+    Ok(())
 }
 
 // One tape after a build: 9, 10 and 12, and where none is given the backward pass.
-pub(crate) fn tape_ready(tape: &[u8], rows: &[u8], scratch: &mut [u8]) -> Refusal
+pub(crate) fn tape_ready(tape: &[u8], rows: &[u8], scratch: &mut [u8]) -> Result<(), Refusal>
     requires { row_bytes ≤ length rows.now }
-    ensures { opens result scratch.new ≡ open_def rows.now tape.now scratch.old }
+    ensures { opens (refusal_of result) scratch.new ≡ open_def rows.now tape.now scratch.old }
 {
-    let refused = of_tape(tape);
-    if refused.reply != 0 {
-        return refused;
-    }
+    of_tape(tape)?;
     if scratch.len() <= tape.len() {
-        return Refusal {
-            reply: 12,
-            place: 0,
-        };
+        return Err(Reason::ShortScratch.at(0));
     }
     backward(tape, rows, scratch);
-    refused
+    Ok(())
+}
+
+// What the forward passes are lent, where all is ready. Each loan comes alone, so that the call gives them one lifetime; tried with an `Outline` in the
+// place of the first three: a struct whose loans are shortened once more by a call gets no proof.
+pub(crate) fn pass_over<'a>(
+    book: &'a [u8],
+    places: &'a [u16; book::STATES],
+    masks: &'a [u64; MASKS],
+    rules: usize,
+    tape: &'a [u8],
+    rows: &'a [u8],
+    sets: &'a [u64],
+    scratch: &'a [u8],
+) -> Pass<'a>
+    requires placed { Placed (book_of book.now).states places.now }
+    requires masked { Masked (book_of book.now).states masks.now }
+    requires counted { rules ≡ length (book_of book.now).words }
+    requires ready { Ready book.now tape.now rows.now sets.now scratch.now }
+    ensures { (result.walk.outline.states.book.now ≡ book.now) × (result.walk.tape.now ≡ tape.now) }
+{
+    let outline = Outline::new(book, places, masks);
+    let walk = Walk {
+        outline,
+        rules,
+        tape,
+        sets,
+        scratch,
+    };
+    Pass { walk, rows }
 }

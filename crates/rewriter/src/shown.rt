@@ -15,13 +15,8 @@ pub struct Bounds {
     pub end: usize,
 }
 
-fn wide(x: u16) -> usize
-    ensures { result ≡ x }
-{
-    x as usize
-}
-
-// The stretch that a line names in a tape of n symbols; 0 and 0 where there is none. The C face calls this one.
+// The stretch that a line names in a tape of n symbols; 0 and 0, and no `Option`, where there is none: so document 01 has it ("the empty part at the
+// tape's front"), and so C gets it, which calls this one.
 pub fn bounds_of(n: usize, lines: &[u16], line: usize) -> Bounds
     ensures value { result ≡ bounds_of n lines.now line }
     ensures start_le_end { (result.start ≤ result.end) × (result.end ≤ n) }
@@ -30,8 +25,8 @@ pub fn bounds_of(n: usize, lines: &[u16], line: usize) -> Bounds
         return Bounds { start: 0, end: 0 };
     }
     let i = line * LINE_WORDS;
-    let start = wide(lines[i + LINE_START]);
-    let end = wide(lines[i + LINE_END]);
+    let start = usize::from(lines[i + LINE_START]);
+    let end = usize::from(lines[i + LINE_END]);
     if end < start {
         return Bounds { start: 0, end: 0 };
     }
@@ -47,7 +42,5 @@ pub fn show<'a>(tape: &'a [u8], lines: &[u16], line: usize) -> &'a [u8]
         × (result.ref_ptr.1 ≡ tape.entry.ref_ptr.1 + (bounds_of (length tape.now) lines.now line).start) }
 {
     let b = bounds_of(tape.len(), lines, line);
-    let start = b.start;
-    let end = b.end;
-    &tape[start..end]
+    &tape[b.start..b.end]
 }

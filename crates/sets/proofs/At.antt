@@ -6,13 +6,15 @@ use native.Mathlib.Omega.{arith}
 use lib.ListN.{length, get_or, take, set, length-append, length-set, get_or-eq_default}
 use Rattle.book.specs.Format.{symbol_count}
 use Rattle.sets.specs.Numbering.{most_sets, pairs, idx, next, run, all, pad}
-use Rattle.sets.specs.Sides.{Clear, Numbered}
+use Rattle.sets.specs.Sides.{number_in, Clear, Numbered}
 use Rattle.sets.specs.Stepping.{NoStepFrom}
 use Rattle.sets.proofs.Pad.{take_pad, get_or_pad, get_or_pad_all, set_pad, length_pad}
 use native.Mathlib.Numerals.{add-one}
 use native.Mathlib.Nat.{add-zero, zero-add, le_of_eq}
 use lib.Seq.{get_or-set_other, length-take-le, take-suc-set}
-use Rattle.book.proofs.Idx.{idx_le, idx_same, idx_snoc}
+use Rattle.std.proofs.Common.{None, Some}
+use Rattle.book.proofs.Idx.{idx_same, idx_snoc}
+use Rattle.sets.proofs.Finding.{found, missed_is, found_is}
 use Rattle.sets.proofs.Turns.{Turned, idle, old, new, ran, grows, all_more, all_done}
 
 pub record At (f : ℕ → ℕ → ℕ) (s j : ℕ) (R S : List ℕ) (n : ℕ) : Type 0 where
@@ -129,25 +131,18 @@ started f s R S clear =
     }
 
 -- every pair is done: the table is whole
-pub whole : (f : ℕ → ℕ → ℕ) (s k : ℕ) (R S : List ℕ) (n : ℕ) → At f s (symbol_count * k) R S n → k ≡ n → Numbered (all f s) n R S
-whole f s k R S n at e =
-    let q : all f s ≡ run f s (symbol_count * k) = all_done f s (symbol_count * k) (omega (arith, at.small)) (omega (arith, at.count)) in
-    record {
-      over = λ h. absurd (let z : ⊥ = omega (arith, at.small) in z);
-      count = λ h. rw q at.count;
-      rows = λ h. rw q at.rows;
-      sets = λ h. rw q at.sets;
-    }
-
--- the 257th: nothing is said of the slices
-pub too_many : (f : ℕ → ℕ → ℕ) (s : ℕ) (R S : List ℕ) → most_sets < length (all f s).sets → Numbered (all f s) (most_sets + 1) R S
-too_many f s R S h =
-    record {
-      over = λ _. h;
-      count = λ l. absurd (let z : ⊥ = omega arith in z);
-      rows = λ l. absurd (let z : ⊥ = omega arith in z);
-      sets = λ l. absurd (let z : ⊥ = omega arith in z);
-    }
+pub whole : (f : ℕ → ℕ → ℕ) (s k : ℕ) (R S : List ℕ) (n : ℕ) → At f s (symbol_count * k) R S n → k ≡ n → (n ≤ most_sets) × Numbered (all f s) n R S
+whole f s k R S n at e = (at.small, counted)
+  where
+    counted : Numbered (all f s) n R S
+    counted =
+        let q : all f s ≡ run f s (symbol_count * k) = all_done f s (symbol_count * k) (omega (arith, at.small)) (omega (arith, at.count)) in
+        record {
+          over = λ h. absurd (let z : ⊥ = omega (arith, at.small) in z);
+          count = λ h. rw q at.count;
+          rows = λ h. rw q at.rows;
+          sets = λ h. rw q at.sets;
+        }
 
 -- the number of the last step's set is at hand: `close` makes the set of a step
 module _ (f : ℕ → ℕ → ℕ) (close : ℕ → ℕ) (s : ℕ) where
@@ -155,7 +150,7 @@ module _ (f : ℕ → ℕ → ℕ) (close : ℕ → ℕ) (s : ℕ) where
   pub record Before (k : ℕ) (R S : List ℕ) (n last number : ℕ) : Type 0 where
     pub at : At f s (symbol_count * k) R S n
     pub reached : k ≤ n
-    pub known : number ≡ idx (take n S) (close last)
+    pub known : Some number ≡ number_in (take n S) (close last)
 
   -- inside row k, before symbol a: the row has the steps of set k
   pub record In (k a : ℕ) (row R S : List ℕ) (n last number : ℕ) : Type 0 where
@@ -163,14 +158,14 @@ module _ (f : ℕ → ℕ → ℕ) (close : ℕ → ℕ) (s : ℕ) where
     pub more : k < n
     pub below : a ≤ symbol_count
     pub here : (i : ℕ) → i < symbol_count → close (get_or row i 0) ≡ f (get_or S k 0) i
-    pub known : number ≡ idx (take n S) (close last)
+    pub known : Some number ≡ number_in (take n S) (close last)
 
   pub before_first : (R S : List ℕ) (x : ℕ) → Clear R S → x ≡ close 0 → x ≡ s → Before 0 R (set S 0 x) 1 0 0
   before_first R S x clear e q =
       record {
         at = rw q (started f s R S clear);
         reached = omega arith;
-        known = sym (rw (take-suc-set S 0 x (omega (arith, clear_sets_lem R S clear))) (idx_same x [] (close 0) e));
+        known = rw (take-suc-set S 0 x (omega (arith, clear_sets_lem R S clear))) (found (x ∷ []) (close 0) 0 (omega arith) (idx_same x [] (close 0) e));
       }
 
   pub in_first : (k : ℕ) (row R S : List ℕ) (n last number : ℕ) → Before k R S n last number → (k ≡ n → ⊥)
@@ -183,62 +178,64 @@ module _ (f : ℕ → ℕ → ℕ) (close : ℕ → ℕ) (s : ℕ) where
       let e : symbol_count * k + a ≡ symbol_count * (k + 1) = omega arith in
       record { at = subst (λ (j : ℕ). At f s j R S n) e w.at; reached = omega (arith, w.more); known = w.known }
 
-  module _ (k a : ℕ) (row R S : List ℕ) (n last number : ℕ) (w : In k a row R S n last number) (ha : a < symbol_count)
-      (m : ℕ) (em : m ≡ idx (take n S) (close (get_or row a 0))) where
-    at_next : (S' : List ℕ) (n' : ℕ) → At f s (symbol_count * k + a + 1) (set R (symbol_count * k + a) m) S' n'
+  module _ (k a : ℕ) (row R S : List ℕ) (n last number : ℕ) (w : In k a row R S n last number) (ha : a < symbol_count) where
+    at_next : (S' : List ℕ) (n' m : ℕ) → At f s (symbol_count * k + a + 1) (set R (symbol_count * k + a) m) S' n'
         → At f s (symbol_count * k + (a + 1)) (set R (symbol_count * k + a) m) S' n'
-    at_next S' n' at =
+    at_next S' n' m at =
         let e : symbol_count * k + a + 1 ≡ symbol_count * k + (a + 1) = omega arith in
         subst (λ (j : ℕ). At f s j (set R (symbol_count * k + a) m) S' n') e at
 
     taken : length (take n S) ≡ n
     taken = length-take-le n S (omega (arith, w.at.small, w.at.room))
 
-    number_le : m ≤ n
-    number_le = omega (arith, taken, idx_le (take n S) (close (get_or row a 0)))
+    -- a set that was met before: its number is below the most, and is written
+    module _ (m : ℕ) (met : Some m ≡ number_in (take n S) (close (get_or row a 0))) where
+      pub old_small : m < most_sets
+      old_small = omega (arith, w.at.small, taken, (found_is (take n S) (close (get_or row a 0)) m met).1)
 
-    -- a number that is written is below the most
-    pub new_small : m ≡ n → (n ≡ most_sets → ⊥) → m < most_sets
-    new_small e ne = omega (arith, w.at.small)
+      pub in_old : (m' : ℕ) (S' : List ℕ) (n' : ℕ) → m' ≡ m → S' ≡ S → n' ≡ n → In k (a + 1) row (set R (symbol_count * k + a) m') S' n' (get_or row a 0) m'
+      in_old m' S' n' e eS en =
+          let v = found_is (take n S) (close (get_or row a 0)) m met in
+          rw (e, eS, en)
+          (record {
+            at =
+                at_next S n m
+                (old_set f s (symbol_count * k + a) R S n w.at k a refl ha w.more (close (get_or row a 0)) m (w.here a ha) v.0
+                (λ z. omega (arith, taken, v.1)));
+            more = w.more;
+            below = omega arith;
+            here = w.here;
+            known = met;
+          })
 
-    pub old_small : (m ≡ n → ⊥) → m < most_sets
-    old_small ne = omega (arith, w.at.small, number_le)
+    -- a new one gets the next number, if that is below the most; and is the 257th else
+    module _ (new : None ≡ number_in (take n S) (close (get_or row a 0))) where
+      next_number : n ≡ idx (take n S) (close (get_or row a 0))
+      next_number = sym (missed_is (take n S) (close (get_or row a 0)) new ∙ taken)
 
-    pub in_new : (x : ℕ) → x ≡ close (get_or row a 0) → (S' : List ℕ) (n' : ℕ) → m ≡ n → (n ≡ most_sets → ⊥) → S' ≡ set S n x → n' ≡ n + 1
-        → In k (a + 1) row (set R (symbol_count * k + a) m) S' n' (get_or row a 0) m
-    in_new x ex S' n' e ne eS en =
-        rw (eS, en)
-        (record {
-          at =
-              at_next (set S n x) (n + 1)
-              (new_set f s (symbol_count * k + a) R S n w.at k a refl ha w.more x m (ex ∙ w.here a ha) (em ∙ ap (idx (take n S)) (sym ex)) e room);
-          more = omega (arith, w.more);
-          below = omega arith;
-          here = λ i h. w.here i h ∙ ap (λ (z : ℕ). f z i) (sym (get_or-set_other S n k x 0 (omega (arith, w.more))));
-          known = grown;
-        })
-      where
-        room : n < most_sets
-        room = omega (arith, w.at.small)
+      pub in_new : (x : ℕ) → x ≡ close (get_or row a 0) → n < most_sets → (m' : ℕ) (S' : List ℕ) (n' : ℕ) → m' ≡ n → S' ≡ set S n x → n' ≡ n + 1
+          → In k (a + 1) row (set R (symbol_count * k + a) m') S' n' (get_or row a 0) m'
+      in_new x ex room m' S' n' e eS en =
+          rw (e, eS, en)
+          (record {
+            at =
+                at_next (set S n x) (n + 1) n
+                (new_set f s (symbol_count * k + a) R S n w.at k a refl ha w.more x n (ex ∙ w.here a ha) (next_number ∙ ap (idx (take n S)) (sym ex)) refl room);
+            more = omega (arith, w.more);
+            below = omega arith;
+            here = λ i h. w.here i h ∙ ap (λ (z : ℕ). f z i) (sym (get_or-set_other S n k x 0 (omega (arith, w.more))));
+            known =
+                found (take (n + 1) (set S n x)) (close (get_or row a 0)) n
+                (omega (arith, length-take-le (n + 1) (set S n x) (omega (arith, length-set S n x, w.at.room)))) grown;
+          })
+        where
+          grown : idx (take (n + 1) (set S n x)) (close (get_or row a 0)) ≡ n
+          grown =
+              rw (add-one, take-suc-set S n x (omega (arith, w.at.room)))
+              (ap (idx (take n S ++ (x ∷ []))) (sym ex) ∙ idx_snoc (take n S) x (ap (idx (take n S)) ex ∙ sym next_number ∙ sym taken) ∙ taken)
 
-        grown : m ≡ idx (take (n + 1) (set S n x)) (close (get_or row a 0))
-        grown =
-            rw (add-one, take-suc-set S n x (omega (arith, w.at.room)))
-            (e ∙ sym taken ∙ sym (idx_snoc (take n S) x (ap (idx (take n S)) ex ∙ sym em ∙ e ∙ sym taken)) ∙ ap (idx (take n S ++ (x ∷ []))) ex)
-
-    pub in_old : (S' : List ℕ) (n' : ℕ) → (m ≡ n → ⊥) → S' ≡ S → n' ≡ n → In k (a + 1) row (set R (symbol_count * k + a) m) S' n' (get_or row a 0) m
-    in_old S' n' ne eS en =
-        rw (eS, en)
-        (record {
-          at = at_next S n (old_set f s (symbol_count * k + a) R S n w.at k a refl ha w.more (close (get_or row a 0)) m (w.here a ha) em ne);
-          more = w.more;
-          below = omega arith;
-          here = w.here;
-          known = em;
-        })
-
-    pub in_full : m ≡ n → n ≡ most_sets → most_sets < length (all f s).sets
-    in_full e q = full f s (symbol_count * k + a) R S n w.at k a refl ha w.more (close (get_or row a 0)) m (w.here a ha) em e q
+      pub in_full : n ≡ most_sets → most_sets < length (all f s).sets
+      in_full q = full f s (symbol_count * k + a) R S n w.at k a refl ha w.more (close (get_or row a 0)) n (w.here a ha) next_number refl q
 
   -- a symbol without a step leads back to the first set, whose number, 0, stands in the row already
   module _ (first : close 0 ≡ s) (k : ℕ) (row R S : List ℕ) (n last number : ℕ) where
@@ -251,7 +248,8 @@ module _ (f : ℕ → ℕ → ℕ) (close : ℕ → ℕ) (s : ℕ) where
     in_none : (a : ℕ) → In k a row R S n last number → a < symbol_count → get_or row a 0 ≡ 0 → In k (a + 1) row R S n last number
     in_none a w h e =
         let m : 0 ≡ idx (take n S) (close (get_or row a 0)) = back_number (symbol_count * k + a) w.at ∙ ap (λ (x : ℕ). idx (take n S) (close x)) (sym e) in
-        let x = in_old k a row R S n last number w h 0 m S n (λ z. omega (arith, w.more)) refl refl in
+        let met = found (take n S) (close (get_or row a 0)) 0 (omega (arith, w.more, w.at.small, w.at.room, length-take-le n S)) (sym m) in
+        let x = in_old k a row R S n last number w h 0 met 0 S n refl refl refl in
         record {
           at = subst (λ (r : List ℕ). At f s (symbol_count * k + (a + 1)) r S n) (kept f s (symbol_count * k + a) R S n w.at) x.at;
           more = w.more;

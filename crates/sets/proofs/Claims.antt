@@ -12,7 +12,7 @@ use Rattle.sets.specs.Numbering.{most_sets}
 use Rattle.sets.specs.Workspace.{row_bytes, set_words, left_table, right_table, AfterBuild, build_def}
 use Rattle.sets.specs.Tables.{left_count, right_count, Buildable}
 use Rattle.sets.specs.Counting.{left_over, right_over, Exactly, MoreThan}
-use Rattle.sets.proofs.Counts.{front, end, law_exactly, law_many, law_few}
+use Rattle.sets.proofs.Counting.{front, end, law_exactly, law_many, law_few}
 use Rattle.sets.proofs.WaysOut.{Way, refused, short, many_left, many_right, built, way, reply, way_accepted}
 
 -- more than 256 left sets, right sets, by the numbering and over all tapes

@@ -3,16 +3,19 @@ pub mod Folds
 pub mod Ends
 pub mod Masks
 pub mod Sweep
+pub mod Making
 pub mod Rows
 pub mod Closing
 -- Laws of the numbering: of a number, of a turn, of the table as it stands in the slices; and that it counts the sets over all tapes.
 pub mod Pad
 pub mod Turns
+pub mod Finding
 pub mod At
-pub mod Counts
+pub mod Counting
 -- Laws of the workspace: its parts, BUILD's ways out, what a reader of it may rely on.
 pub mod Parts
 pub mod WaysOut
+pub mod Results
 pub mod Tables
 -- BUILD with fewer symbols: the numbering with shorter rows, and the workspace.
 pub mod Widths

@@ -1,6 +1,9 @@
--- The contracts of the public functions determine what they give and leave; all but BUILD's have a `requires`. Assumes nothing.
+-- The contracts of the public functions determine what they give and leave; where there is a `requires`, of the calls that meet it. Assumes nothing.
 use mathlib.Core.Path.{refl, sym, ◌∙◌}
 use Rattle.book.specs.Determined.{Determined, Called}
+use Rattle.sets.proofs.Results.{built_one}
+use Rattle.sets.proofs.try_build.Kinds as try-kinds
+use Rattle.sets.proofs.try_build.Reads as try-reads
 use Rattle.sets.proofs.build.Kinds as build-kinds
 use Rattle.sets.proofs.build.Reads as build-reads
 use Rattle.sets.proofs.number_both.Kinds as both-kinds
@@ -22,17 +25,21 @@ use Rattle.sets.proofs.entries.right_set.Reads as right-set-reads
 pub one_build : Determined 3 build-kinds.ps build-kinds.r build-reads.Post
 one_build κs a x y v w p q = let e = p ∙ sym q in (λ i. (e i).answer, λ i. (tt, ((e i).rows, ((e i).sets, tt))))
 
-pub one_both : Determined 5 both-kinds.ps both-kinds.r (Called 5 both-kinds.ps both-kinds.r both-reads.Pre both-reads.Post)
-one_both κs a x y v w p q = let e = p.1 ∙ sym q.1 in (λ i. (e i).answer, λ i. (tt, (tt, (tt, ((e i).rows, ((e i).sets, tt))))))
+-- the same of a result: two results with one answer are one
+pub one_try : Determined 3 try-kinds.ps try-kinds.r try-reads.Post
+one_try κs a x y v w p q = let e = p ∙ sym q in (built_one _ _ (λ i. (e i).answer), λ i. (tt, ((e i).rows, ((e i).sets, tt))))
+
+pub one_both : Determined 4 both-kinds.ps both-kinds.r (Called 4 both-kinds.ps both-kinds.r both-reads.Pre both-reads.Post)
+one_both κs a x y v w p q = let e = p.1 ∙ sym q.1 in (built_one _ _ (λ i. (e i).answer), λ i. (tt, ((e i).rows, ((e i).sets, tt))))
 
 pub one_numbered : Determined 3 number-kinds.ps number-kinds.r (Called 3 number-kinds.ps number-kinds.r number-reads.Pre number-reads.Post)
-one_numbered κs a x y v w p q = let e = p.1 ∙ sym q.1 in (λ i. (e i).answer, λ i. (tt, ((e i).rows, ((e i).sets, tt))))
+one_numbered κs a x y v w p q = let e = p.1 ∙ sym q.1 in (built_one _ _ (λ i. (e i).answer), λ i. (tt, ((e i).rows, ((e i).sets, tt))))
 
-pub one_step : Determined 2 step-kinds.ps step-kinds.r (Called 2 step-kinds.ps step-kinds.r step-reads.Pre step-reads.Post)
-one_step κs a x y v w p q = (p.1 ∙ sym q.1, refl)
+pub one_step : Determined 2 step-kinds.ps step-kinds.r step-reads.Post
+one_step κs a x y v w p q = (p ∙ sym q, refl)
 
-pub one_next : Determined 2 next-kinds.ps next-kinds.r (Called 2 next-kinds.ps next-kinds.r next-reads.Pre next-reads.Post)
-one_next κs a x y v w p q = (p.1 ∙ sym q.1, refl)
+pub one_next : Determined 2 next-kinds.ps next-kinds.r next-reads.Post
+one_next κs a x y v w p q = (p ∙ sym q, refl)
 
 pub one_left_entry : Determined 1 left-entry-kinds.ps left-entry-kinds.r
     (Called 1 left-entry-kinds.ps left-entry-kinds.r left-entry-reads.Pre left-entry-reads.Post)

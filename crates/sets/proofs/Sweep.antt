@@ -28,7 +28,7 @@ use Rattle.book.proofs.Accepted.{is_accepted}
 use Rattle.book.proofs.Sound.{accepted_sound, kind_arc, ArcPassed, arc_passed}
 use Rattle.book.proofs.Walk.{Walk, walk_start, walk_passed, walk_last, walk_more, walk_ind}
 use Rattle.book.proofs.Walk.{states_more, states_same, arcs_more, arcs_same, first_same, first_rule}
-use Rattle.book.proofs.Placing.{place_fits, Found, found, found_place}
+use Rattle.book.proofs.Placing.{Found, found, found_place}
 use Rattle.sets.specs.Stepping.{hop_fold, step_fold, end_of, turned, step_arcs, Within, SweptAll}
 use Rattle.sets.proofs.Folds.{step_or, step_end}
 use Rattle.sets.proofs.Ends.{end_is, turned_snoc}
@@ -155,14 +155,6 @@ placed s state place z e h = go (dec_lt state (length (book_of s).states))
     go : Dec (state < length (book_of s).states) → Found s (book_of s) state (state_of (book_of s) state)
     go (yes l) = found s (book_of s) (walk_start s z) state l
     go (no l) = absurd (omega (arith, e ∙ ap (λ (x : State). x.place) (get_or-eq_default (book_of s).states no_state {n = state} (omega arith))))
-
--- a place fits, whether there is a state or not
-pub placed_fits : (s : List ℕ) (state place : ℕ) → (check_def s).reply ≡ 0 → place ≡ (state_of (book_of s) state).place → place < 3000
-placed_fits s state place z e = go (ℕ_discrete place 0)
-  where
-    go : Dec (place ≡ 0) → place < 3000
-    go (yes h) = omega arith
-    go (no h) = omega (arith, e, place_fits _ _ _ _ (placed s state place z e (omega (arith, h))).walk)
 
 -- what is left after the lowest state lies above it
 rest_above : (d x t s : ℕ) → Lowest d x t → member (without x) s ≡ true → (member x s ≡ true) × (t ≤ s)

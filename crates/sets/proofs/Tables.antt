@@ -17,8 +17,8 @@ use Rattle.sets.specs.Tables.{left_count, right_count, left_entry, right_entry, 
 use Rattle.sets.specs.Counting.{left_over, right_over}
 use Rattle.sets.specs.declared.Built.{Built}
 use Rattle.sets.proofs.Pad.{length_pad, get_or_pad_all}
-use Rattle.sets.proofs.Counts.{idx_distinct}
-use Rattle.sets.proofs.Counts.{law_distinct, law_width, Half, half, walk_front, walk_end}
+use Rattle.sets.proofs.Counting.{idx_distinct}
+use Rattle.sets.proofs.Counting.{law_distinct, law_width, Half, half, walk_front, walk_end}
 pub use Rattle.sets.proofs.WaysOut.{way_refused, way_rows, way_sets}
 use Rattle.sets.proofs.WaysOut.{Way, refused, short, many_left, many_right, built, way, way_on, way_accepted, numbered_both, reply}
 

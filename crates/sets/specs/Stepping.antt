@@ -66,21 +66,6 @@ pub record Added (more : ℕ → ℕ) (row row' : List ℕ) : Type 0 where
   pub long : length row' ≡ symbol_count
   pub each : (a : ℕ) → a < symbol_count → get_or row' a 0 ≡ bit_or (get_or row a 0) (more a)
 
--- the same records on all symbols: what they give is added to the row
-pub record SweptRow (p q : ℕ) (arcs : List Arc) (state set next : ℕ) (row row' : List ℕ) : Type 0 where
-  pub more : ℕ → ℕ
-  pub swept : (a : ℕ) → SweptAll p q arcs state set a (more a) next
-  pub added : Added more row row'
-
--- the row has the step on each symbol
-pub record Stepped (step : ℕ → ℕ) (row : List ℕ) : Type 0 where
-  pub long : length row ≡ symbol_count
-  pub each : (a : ℕ) → a < symbol_count → get_or row a 0 ≡ step a
-
--- the row is all 0
-abbrev pub Blank : List ℕ → Type 0
-Blank = Stepped (λ a. 0)
-
 -- from symbol n on the row has no step
 pub record NoStepFrom (row : List ℕ) (n : ℕ) : Type 0 where
   pub few : n ≤ symbol_count

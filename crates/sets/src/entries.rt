@@ -1,5 +1,6 @@
 // Reading a built workspace: the entries of its rows, and its sets. Public, and with a `requires`: a pass over a tape reads an entry a symbol,
-// and has the lengths from BUILD.
+// and has the lengths from BUILD. Two entries, and not one of any side: `left_entry` and `right_entry` of specs/Tables are two sums, each in its
+// own order, and each pass carries its number in its own type.
 ghost use Rattle.std.specs.Prelude.{◌≡◌, ◌≤◌, ◌<◌, length, get_or};
 ghost use Rattle.book.specs.Format.{symbol_count};
 ghost use Rattle.sets.specs.Numbering.{most_sets};

@@ -1,108 +1,101 @@
-// The numbering of a side: nested loops over the numbered sets and the symbols, in turn. One function serves both sides; `back` is the
-// right one. Lent with the book: the places of its states, and its masks.
-ghost use Rattle.std.specs.Prelude.{◌≡◌, ◌≤◌, length, take};
-ghost use Rattle.book.specs.Reading.{check_def, book_of};
-ghost use Rattle.book.specs.Outline.{Placed, Masked};
+// The numbering of a side: nested loops over the numbered sets and the symbols, in turn. One function serves both sides.
+ghost use Rattle.std.specs.Prelude.{◌≡◌, Some, length};
+ghost use Rattle.book.specs.Reading.{book_of};
 ghost use Rattle.sets.specs.Stepping.{close_by, StepsEnd};
-ghost use Rattle.sets.specs.Numbering.{idx};
-ghost use Rattle.sets.specs.Sides.{side_table, Clear, Numbered};
+ghost use Rattle.sets.specs.Sides.{back, side_table, number_in, Clear, Counted};
 
-// The number of the set among the first `count`, or `count` where it is not met before.
-fn find(sets: &[u64], count: usize, set: u64) -> usize
-    requires { count ≤ length sets.now }
-    ensures { result ≡ idx (take count sets.now) set }
+use super::sides::Side;
+use super::stepping::{Row, close, make};
+use book::outline::Outline;
+
+// The last step, and the number of the set that it gave: that of the empty tape's set at first, which the empty step gives.
+#[derive(Clone, Copy)]
+struct Last {
+    step: u64,
+    number: usize,
+}
+
+// The number of the set, if it was met before.
+fn find(sets: &[u64], set: u64) -> Option<usize>
+    ensures { result ≡ number_in sets.now set }
 {
+    // document 01, "What form to use where": the search for an equal set breaks out with its number, hence no `position`
     let mut i: usize = 0;
     loop {
-        if i == count {
-            break count;
+        if i == sets.len() {
+            break None;
         }
         if sets[i] == set {
-            break i;
+            break Some(i);
         }
         i += 1;
     }
 }
 
-// The number of the set that a step gives. Where the step is the last one, so is its number: nothing is closed and nothing is sought.
-fn number_of(
-    masks: &[u64; book::outline::MASKS],
-    back: bool,
-    sets: &[u64],
-    count: usize,
-    last: u64,
-    number: usize,
-    step: u64,
-) -> usize
-    requires count_in_bounds { count ≤ length sets.now }
-    requires number_value { number ≡ idx (take count sets.now) (close_by masks.now back last) }
-    ensures { result ≡ idx (take count sets.now) (close_by masks.now back step) }
+// The number of the set that a step gives, if it was met before. Where the step is the last one, so is its number: nothing is closed and
+// nothing is sought.
+fn number_of(outline: &Outline, side: Side, sets: &[u64], last: Last, step: u64) -> Option<usize>
+    requires { Some last.number ≡ number_in sets.now (close_by outline.now.masks.now (back side) last.step) }
+    ensures { result ≡ number_in sets.now (close_by outline.now.masks.now (back side) step) }
 {
-    if step == last {
-        return number;
+    if step == last.step {
+        return Some(last.number);
     }
-    let set = super::stepping::close(masks, back, step);
-    find(sets, count, set)
+    let set = close(outline.masks, side, step);
+    find(sets, set)
 }
 
 // Where the row's steps end: no symbol from there on has one. Such a symbol leads back to set 0, and its number stands in rows that are all 0.
-fn steps_end(row: &[u64; super::ROW]) -> u8
-    ensures { StepsEnd row.now result }
+fn steps_end(steps: &[u64; super::ROW]) -> usize
+    ensures { StepsEnd steps.now result }
 {
-    let mut end = book::SYMBOLS;
-    loop {
-        if end == 0 {
-            break 0;
-        }
-        if row[(end - 1) as usize] != 0 {
-            break end;
-        }
-        end -= 1;
-    }
+    let last = steps.iter().rposition(|step| *step != 0);
+    last.map_or(0, |symbol| symbol + 1)
 }
 
-// All pairs of a numbered set and a symbol, into rows and sets that are all 0. The count; or one more than the most, at the first set that
-// would pass it.
+// All pairs of a numbered set and a symbol, into rows and sets that are all 0: the sets with their count, since document 01 lends them whole and there
+// is no heap. The count; or none, at the first set that would pass the most.
 pub(crate) fn number_sets(
-    book: &[u8],
-    places: &[u16; book::STATES],
-    masks: &[u64; book::outline::MASKS],
-    back: bool,
+    outline: &Outline,
+    side: Side,
     rows: &mut [u8],
     sets: &mut [u64],
-) -> usize
-    requires book_value { (check_def book.now).reply ≡ 0 }
-    requires placed { Placed (book_of book.now).states places.now }
-    requires masked { Masked (book_of book.now).states masks.now }
-    requires clear { Clear rows.old sets.old }
-    ensures { Numbered (side_table (book_of book.now) back) result rows.new sets.new }
+) -> Option<usize>
+    requires { Clear rows.old sets.old }
+    ensures { Counted (side_table (book_of outline.now.states.book.now) (back side)) result rows.new sets.new }
 {
-    sets[0] = super::stepping::close(masks, back, 0);
+    sets[0] = close(outline.masks, side, 0);
     let mut count: usize = 1;
     let mut k: usize = 0;
-    let mut last: u64 = 0;
-    let mut number: usize = 0;
+    let mut last = Last { step: 0, number: 0 };
+    // document 01, "What form to use where": nested loops over numbered sets and symbols, which the 257th set leaves by label. The sets grow
+    // on the way, so the outer one is no `for`
     'all: loop {
         if k == count {
-            break count;
+            break Some(count);
         }
-        let mut row = [0u64; super::ROW];
-        super::stepping::side_row(book, places, back, sets[k], &mut row);
-        let end = steps_end(&row);
-        let mut symbol: u8 = 0;
-        while symbol < end {
-            let step = row[symbol as usize];
-            number = number_of(masks, back, sets, count, last, number, step);
-            last = step;
-            if number == count {
-                if count == super::MOST_SETS {
-                    break 'all super::MOST_SETS + 1;
+        let mut row = Row {
+            side,
+            set: sets[k],
+            steps: [0u64; super::ROW],
+        };
+        make(&outline.states, &mut row);
+        let end = steps_end(&row.steps);
+        for symbol in 0..end {
+            let step = row.steps[symbol];
+            let number = match number_of(outline, side, &sets[..count], last, step) {
+                Some(met) => met,
+                None => {
+                    if count == super::MOST_SETS {
+                        break 'all None;
+                    }
+                    sets[count] = close(outline.masks, side, step);
+                    count += 1;
+                    count - 1
                 }
-                sets[count] = super::stepping::close(masks, back, step);
-                count += 1;
-            }
-            rows[super::ROW * k + symbol as usize] = number as u8;
-            symbol += 1;
+            };
+            last = Last { step, number };
+            rows[super::ROW * k + symbol] = number as u8;
         }
         k += 1;
     }

@@ -1,30 +1,13 @@
-// The workspace: its parts lent one by one, and cleared.
-ghost use Rattle.std.specs.Prelude.{◌≡◌, [], ◌++◌, ◌+◌, ◌≤◌, length, drop};
-ghost use Rattle.book.specs.Reading.{check_def, book_of};
-ghost use Rattle.book.specs.Outline.{Placed, Masked};
+// The workspace: one side put into its own rows and sets, and both cleared. Rows and sets are two slices, as document 01 and the C interface lend
+// them.
+ghost use Rattle.std.specs.Prelude.{◌≡◌, [], ◌++◌, ◌≤◌, length, drop};
+ghost use Rattle.book.specs.Reading.{book_of};
 ghost use Rattle.sets.specs.Numbering.{most_sets, pairs, pad};
 ghost use Rattle.sets.specs.Workspace.{row_bytes, set_words};
-ghost use Rattle.sets.specs.Sides.{side_table, Numbered, NumberedAt};
+ghost use Rattle.sets.specs.Sides.{back, side_table, Counted};
 
-fn clear_rows(rows: &mut [u8])
-    ensures { rows.new ≡ pad (length rows.old) [] }
-{
-    let mut i: usize = 0;
-    while i < rows.len() {
-        rows[i] = 0;
-        i += 1;
-    }
-}
-
-fn clear_sets(sets: &mut [u64])
-    ensures { sets.new ≡ pad (length sets.old) [] }
-{
-    let mut i: usize = 0;
-    while i < sets.len() {
-        sets[i] = 0;
-        i += 1;
-    }
-}
+use super::sides::Side;
+use book::outline::Outline;
 
 // Both sides all 0, and nothing past them changed.
 pub(crate) fn clear(rows: &mut [u8], sets: &mut [u64])
@@ -32,54 +15,21 @@ pub(crate) fn clear(rows: &mut [u8], sets: &mut [u64])
     ensures rows_after { rows.new ≡ pad row_bytes [] ++ drop row_bytes rows.old }
     ensures sets_after { sets.new ≡ pad set_words [] ++ drop set_words sets.old }
 {
-    clear_rows(&mut rows[0..super::ROW_BYTES]);
-    clear_sets(&mut sets[0..super::SET_WORDS]);
+    rows[..super::ROW_BYTES].fill(0);
+    sets[..super::SET_WORDS].fill(0);
 }
 
-// One side, into its own rows and sets, whatever stood there before.
-fn number_side(
-    book: &[u8],
-    places: &[u16; book::STATES],
-    masks: &[u64; book::outline::MASKS],
-    back: bool,
+// One side, into its own rows and sets, whatever stood there before. The count; or none, where there are more sets than the most.
+pub(crate) fn number_side(
+    outline: &Outline,
+    side: Side,
     rows: &mut [u8],
     sets: &mut [u64],
-) -> usize
-    requires book_value { (check_def book.now).reply ≡ 0 }
-    requires placed { Placed (book_of book.now).states places.now }
-    requires masked { Masked (book_of book.now).states masks.now }
-    requires rows_len { (length rows.old ≡ pairs) × (length sets.old ≡ most_sets) }
-    ensures { Numbered (side_table (book_of book.now) back) result rows.new sets.new }
+) -> Option<usize>
+    requires { (length rows.old ≡ pairs) × (length sets.old ≡ most_sets) }
+    ensures { Counted (side_table (book_of outline.now.states.book.now) (back side)) result rows.new sets.new }
 {
-    clear_rows(rows);
-    clear_sets(sets);
-    super::numbering::number_sets(book, places, masks, back, rows, sets)
-}
-
-// One side, at its place in the workspace.
-pub(crate) fn number_part(
-    book: &[u8],
-    places: &[u16; book::STATES],
-    masks: &[u64; book::outline::MASKS],
-    back: bool,
-    rows: &mut [u8],
-    sets: &mut [u64],
-    row: usize,
-    set: usize,
-) -> usize
-    requires book_value { (check_def book.now).reply ≡ 0 }
-    requires placed { Placed (book_of book.now).states places.now }
-    requires masked { Masked (book_of book.now).states masks.now }
-    requires pairs_in_bounds { (row + pairs ≤ length rows.old) × (set + most_sets ≤ length sets.old) }
-    ensures { NumberedAt (side_table (book_of book.now) back) result row set rows.old sets.old
-        rows.new sets.new }
-{
-    number_side(
-        book,
-        places,
-        masks,
-        back,
-        &mut rows[row..row + super::PAIRS],
-        &mut sets[set..set + super::MOST_SETS],
-    )
+    rows.fill(0);
+    sets.fill(0);
+    super::numbering::number_sets(outline, side, rows, sets)
 }

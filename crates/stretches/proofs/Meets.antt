@@ -81,14 +81,14 @@ module _ (b : Book) (n : ℕ) (masks : List ℕ) (m : Tests b n masks) where
     pub open_own : bit_and L (get_or masks (left_accepts r) 0) ≢ 0 → get_or masks (focus_starts r) 0 ≡ opened_by b L r
     open_own e = rw (opening, ne_eqb _ _ e)
 
-  pub open_start : (L : ℕ) → (0 ≤ n) × (0 ≡ opened_below b L 0)
-  open_start L = (omega arith, sym (below_none b m.sound L))
+  pub open_start : (L : ℕ) → 0 ≡ opened_below b L 0
+  open_start L = sym (below_none b m.sound L)
 
-  pub open_turn : (L r out x : ℕ) → (r ≤ n) × (out ≡ opened_below b L r) → r < n → x ≡ opened_by b L r → (r + 1 ≤ n) × (bit_or out x ≡ opened_below b L (r + 1))
-  open_turn L r out x was h e = (omega arith, rw add-one (ap₂ bit_or was.1 e ∙ sym (below_more b m.sound L r)))
+  pub open_turn : (L r out x : ℕ) → out ≡ opened_below b L r → x ≡ opened_by b L r → bit_or out x ≡ opened_below b L (r + 1)
+  open_turn L r out x was e = rw add-one (ap₂ bit_or was e ∙ sym (below_more b m.sound L r))
 
-  pub open_end : (L R r out : ℕ) → (r ≤ n) × (out ≡ opened_below b L r) → n ≤ r → bit_and out R ≡ focus_first b L R
-  open_end L R r out was h = ap (λ (x : ℕ). bit_and x R) was.1 ∙ below_all b m.sound L r R (omega (arith, m.many))
+  pub open_end : (L R r out : ℕ) → out ≡ opened_below b L r → r ≡ n → bit_and out R ≡ focus_first b L R
+  open_end L R r out was h = ap (λ (x : ℕ). bit_and x R) was ∙ below_all b m.sound L r R (omega (arith, m.many))
 
 -- the lowest rule: the rest from here is the whole
 pub record Seeking (b : Book) (X R n r : ℕ) : Type 0 where

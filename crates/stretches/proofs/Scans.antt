@@ -1,11 +1,15 @@
 -- The walk from a free position: the pruned set, the last end met and its rule; its turns in the code's own numbers. Assumes nothing.
 use Prim.Native.Nat.{ℕ, suc, ◌+◌, ◌≤◌, ◌<◌}
-use mathlib.Core.Path.{◌≡◌, sym, ap, fun_ext, ◌∙◌}
+use mathlib.Core.Path.{◌≡◌, refl, sym, ap, fun_ext, ◌∙◌}
 use mathlib.Core.Logic.{◌≢◌}
 use mathlib.Core.Bool.{Bool, cond, true, false}
 use mathlib.Core.List.{List}
 use native.Mathlib.Omega.{arith}
+use native.Mathlib.Decide.{ℕ_discrete}
+use borrow.Author.Tests.{eq-eqb, ne_eqb}
+use Rattle.std.proofs.Common.{Some, None}
 use native.Mathlib.Numerals.{add-one}
+use lib.Dec.{eqb}
 use lib.ListN.{length, get_or}
 use Rattle.book.specs.Reading.{Book, book_of}
 use Rattle.book.specs.Language.{rules, rules_in}
@@ -15,7 +19,8 @@ use Rattle.sets.specs.Focus.{focus_first, focus_next}
 use Rattle.sets.specs.Tables.{right_set}
 use Rattle.stretches.specs.Candidates.{candidate, some_rule, first_of, rules_of}
 use Rattle.stretches.specs.Ready.{Ready, RightSets}
-use Rattle.stretches.specs.Position.{no_rule, hit_rule, lowest, TakenHere}
+use Rattle.stretches.specs.Position.{no_rule, hit_rule, up_to, end_of, rule_in, lowest, TakenHere}
+use Rattle.stretches.specs.declared.walk.Taken.{Taken}
 use Rattle.stretches.proofs.First.{first_hit, first_miss}
 use Rattle.stretches.proofs.CandidateSets.{Best, best_first, best_next, best_end, best_dead}
 use Rattle.stretches.proofs.Pruned.{Pruned, pruned_start, pruned_turn, pruned_hits}
@@ -81,3 +86,40 @@ module _ (book tape sets scratch : List ℕ) (seen : RightSets book tape sets sc
     walk_end z =
         let m = was.walk.high in
         record { far = best_end (rules b) tape i j end was.walk.low (omega arith) was.best; who = was.who }
+
+-- what passes at an end, as an answer
+pub up_to_low : (end r : ℕ) → r < no_rule → Some (record { end = end; rule = r }) ≡ up_to end r
+up_to_low end r h = sym (ap (λ (c : Bool). cond c None (Some (record { end = end; rule = r }))) (ne_eqb r no_rule (λ e. omega arith)))
+
+-- what an answer says
+pub hit_some : (t : Taken) (end r : ℕ) → Some t ≡ up_to end r → (t ≡ record { end = end; rule = r }) × (r ≢ no_rule)
+hit_some t end r e = go (ℕ_discrete r no_rule)
+  where
+    go : Dec (r ≡ no_rule) → (t ≡ record { end = end; rule = r }) × (r ≢ no_rule)
+    go (yes f) = let z : Some t ≡ None = e ∙ ap (λ (c : Bool). cond c None (Some (record { end = end; rule = r }))) (eq-eqb r no_rule f) in absurd (cc z)
+    go (no f) =
+        let z : Some t ≡ Some (record { end = end; rule = r }) = e ∙ ap (λ (c : Bool). cond c None (Some (record { end = end; rule = r }))) (ne_eqb r no_rule f) in (cc z, f)
+
+pub hit_none : (end r : ℕ) → None ≡ up_to end r → r ≡ no_rule
+hit_none end r e = go (ℕ_discrete r no_rule)
+  where
+    go : Dec (r ≡ no_rule) → r ≡ no_rule
+    go (yes f) = f
+    go (no f) =
+        let z : None ≡ Some (record { end = end; rule = r }) = e ∙ ap (λ (c : Bool). cond c None (Some (record { end = end; rule = r }))) (ne_eqb r no_rule f) in absurd (cc z)
+
+-- at the walk's start either answer ends there
+module _ (i r : ℕ) where
+  pub start_end : end_of i (up_to i r) ≡ i
+  start_end = go (eqb r no_rule)
+    where
+      go : (c : Bool) → end_of i (cond c None (Some (record { end = i; rule = r }))) ≡ i
+      go true = refl
+      go false = refl
+
+  pub start_rule : rule_in (up_to i r) ≡ r
+  start_rule = go (ℕ_discrete r no_rule)
+    where
+      go : Dec (r ≡ no_rule) → rule_in (up_to i r) ≡ r
+      go (yes f) = ap (λ (c : Bool). rule_in (cond c None (Some (record { end = i; rule = r })))) (eq-eqb r no_rule f) ∙ sym f
+      go (no f) = ap (λ (c : Bool). rule_in (cond c None (Some (record { end = i; rule = r })))) (ne_eqb r no_rule f)

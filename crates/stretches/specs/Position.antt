@@ -1,12 +1,13 @@
 -- One position after the other: the tests at one end of a stretch, what is taken at a free position, and what is written and taken at a
 -- position, where the last stretch taken before it ends at `end`.
-use Rattle.std.specs.Prelude.{ℕ, ◌≡◌, List, [], ◌++◌, Bool, cond, ◌&&◌, ltb, take, drop}
+use Rattle.std.specs.Prelude.{ℕ, ◌≡◌, List, [], ◌++◌, Bool, cond, ◌&&◌, ltb, eqb, take, drop, Option, Some, None}
 use Rattle.book.specs.Format.{most_rules, focus_part, right_part}
 use Rattle.book.specs.Reading.{Book}
 use Rattle.book.specs.Language.{Rules, rules}
 use Rattle.sets.specs.Focus.{meets_accept, meets_start}
 use Rattle.stretches.specs.Candidates.{Stretch, candidate, rules_of, some_rule, first_of, longest, fresh, taken_at}
 use Rattle.stretches.specs.Output.{Mark, kept_marks, written}
+use Rattle.stretches.specs.declared.walk.Taken.{Taken}
 
 -- a rule passes at an end: X, the focus states there, holds a focus accept of it, and R, the right set there, a right start
 unfoldable pub hits : Book → ℕ → ℕ → ℕ → Bool
@@ -28,6 +29,19 @@ lowest b t i j = first_of (candidate b t i j) (rules_of b) no_rule
 pub record TakenHere (b : Rules) (t : List ℕ) (i end rule : ℕ) : Type 0 where
   pub far : end ≡ longest b t i
   pub who : rule ≡ lowest b t i end
+
+-- the stretch up to `end` by the rule of this number; none where it is no rule's
+abbrev pub up_to : ℕ → ℕ → Option Taken
+up_to end r = cond (eqb r no_rule) None (Some (record { end = end; rule = r }))
+
+-- what the walk from i answers: where the stretch ends and its rule; i and the number that is no rule's where nothing is taken
+abbrev pub end_of : ℕ → Option Taken → ℕ
+end_of i (Some t) = t.end
+end_of i None = i
+
+abbrev pub rule_in : Option Taken → ℕ
+rule_in (Some t) = t.rule
+rule_in None = no_rule
 
 -- the word that is written at a free position i
 unfoldable pub word_here : Rules → List ℕ → ℕ → List Mark

@@ -1,16 +1,17 @@
 -- What the forward passes stand on, and nothing else of the builder: an accepted book, its outline, and a tape with workspace and scratch that
 -- say which set stands where.
-use Rattle.std.specs.Prelude.{ℕ, ◌+◌, ◌≤◌, ◌<◌, ◌≡◌, List, length, get_or}
+use Rattle.std.specs.Prelude.{ℕ, ◌≤◌, ◌<◌, ◌≡◌, List, length, get_or}
 use Rattle.book.specs.Format.{symbol_count}
 use Rattle.book.specs.Reading.{Book, check_def, book_of}
 use Rattle.book.specs.Sound.{Sound}
-use Rattle.book.specs.Outline.{Placed, WordsAt, Masked}
+use Rattle.book.specs.Outline.{Placed, Masked}
 use Rattle.sets.specs.Sets.{left_first, left_next, right_at}
 use Rattle.sets.specs.Focus.{focus_step}
 use Rattle.sets.specs.Numbering.{most_sets}
 use Rattle.sets.specs.Workspace.{row_bytes, set_words}
 use Rattle.sets.specs.Tables.{left_count, left_entry, left_set, right_set}
 use Rattle.stretches.specs.Buffers.{longest_tape}
+use Rattle.stretches.specs.declared.steps.Steps.{Steps}
 
 -- what the masks say of an accepted book
 pub record Tests (b : Book) (rules : ℕ) (masks : List ℕ) : Type 0 where
@@ -27,13 +28,6 @@ pub record Outlined (b : Book) (rules : ℕ) (places masks : List ℕ) : Type 0 
   pub placed : Placed b.states places
   -- the masks: starts and ends of candidates are tested with them
   pub tests : Tests b rules masks
-
--- what the passes over an accepted book are lent of it
-pub record Lent (book : List ℕ) (rules : ℕ) (places masks words : List ℕ) : Type 0 where
-  -- for the walks
-  pub outlined : Outlined (book_of book) rules places masks
-  -- where each rule's record stands: the output reads the words there
-  pub words_at : WordsAt book (book_of book).words words
 
 -- workspace and scratch after BUILD and the backward pass; what is said of the left rows and sets is said in `Tables`
 pub record Ready (book tape rows sets scratch : List ℕ) : Type 0 where
@@ -66,17 +60,15 @@ pub record RightSets (book tape sets scratch : List ℕ) : Type 0 where
   -- the scratch holds at each position the number of the right set there
   pub right : (j : ℕ) → j ≤ length tape → right_set sets (get_or scratch j 0) ≡ right_at (book_of book) tape j
 
--- the steps of the focus that a pass remembers: the set before step k stands at k, the set after it at after_step k
+-- how many steps of the focus a pass remembers
 abbrev pub slot_count : ℕ
 slot_count = 16
 
-abbrev pub after_step : ℕ → ℕ
-after_step k = slot_count + k
-
 -- each of them is a step of the book
-pub record Remembers (b : Book) (steps symbols : List ℕ) : Type 0 where
-  -- a word before and a word after each step, and a symbol
-  pub steps_room : length steps ≡ slot_count + slot_count
-  pub symbols_room : length symbols ≡ slot_count
+pub record Remembers (b : Book) (s : Steps) : Type 0 where
+  -- a set before and a set after each step, and a symbol
+  pub before_room : length s.before ≡ slot_count
+  pub after_room : length s.after ≡ slot_count
+  pub symbols_room : length s.symbols ≡ slot_count
   -- what stands after is the step of what stands before, so that it can be taken without being computed
-  pub step : (k : ℕ) → k < slot_count → get_or steps (after_step k) 0 ≡ focus_step b (get_or steps k 0) (get_or symbols k 0)
+  pub step : (k : ℕ) → k < slot_count → get_or s.after k 0 ≡ focus_step b (get_or s.before k 0) (get_or s.symbols k 0)

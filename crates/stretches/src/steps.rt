@@ -1,18 +1,23 @@
 // The steps of the focus that a pass over a tape remembers: on real tapes the same few come again and again.
 ghost use Rattle.std.specs.Prelude.{◌≡◌, ◌<◌};
-ghost use Rattle.book.specs.Reading.{check_def, book_of};
-ghost use Rattle.book.specs.Outline.{Placed};
+ghost use Rattle.book.specs.Reading.{Book, book_of};
 ghost use Rattle.sets.specs.Focus.{focus_step};
 ghost use Rattle.stretches.specs.Ready.{slot_count, Remembers};
+
+use book::outline::States;
 
 // How many they are.
 pub const SLOTS: usize = 16;
 
-// The words of the remembered steps: the set before step k stands at k, and the set after it at AFTER + k. Its symbol stands beside them, in an
-// array of bytes. At first they are steps of the empty set.
-pub const STEPS: usize = SLOTS + SLOTS;
-
-const AFTER: usize = SLOTS;
+// Step k leads from the set before it on its symbol to the set after it. Three arrays and not one of steps: a step of its own takes 24 bytes, these
+// take 17, and the stack is counted (QAFRENDI_STACK). Which steps they are steps of says `Remembers` in the contracts: a type that held the book too
+// would have to say in each contract that the book stays.
+#[derive(Clone, Copy)]
+pub struct Steps {
+    pub before: [u64; SLOTS],
+    pub after: [u64; SLOTS],
+    pub symbols: [u8; SLOTS],
+}
 
 // Where the step of a set on a symbol is looked for, and put: sets with another lowest state, or on another symbol, seldom share a place.
 fn slot_of(set: u64, symbol: u8) -> usize
@@ -21,30 +26,34 @@ fn slot_of(set: u64, symbol: u8) -> usize
     (2 * u64::trailing_zeros(set) as usize + symbol as usize) % SLOTS
 }
 
-// The step of a set, remembered or computed.
-pub(crate) fn remembered(
-    book: &[u8],
-    places: &[u16; book::STATES],
-    steps: &mut [u64; STEPS],
-    symbols: &mut [u8; SLOTS],
-    set: u64,
-    symbol: u8,
-) -> u64
-    requires book_value { (check_def book.now).reply ≡ 0 }
-    requires placed { Placed (book_of book.now).states places.now }
-    requires remembers { Remembers (book_of book.now) steps.old symbols.old }
-    ensures value { result ≡ focus_step (book_of book.now) set symbol }
-    ensures remembers_2 { Remembers (book_of book.now) steps.new symbols.new }
-{
-    let slot = slot_of(set, symbol);
-    if steps[slot] == set {
-        if symbols[slot] == symbol {
-            return steps[AFTER + slot];
+impl Steps {
+    // At first they are steps of the empty set.
+    pub fn new() -> Self
+        ensures { (b : Book) → Remembers b result }
+    {
+        Steps {
+            before: [0; SLOTS],
+            after: [0; SLOTS],
+            symbols: [0; SLOTS],
         }
     }
-    let after = sets::stepping::focus_step(book, places, set, symbol);
-    steps[slot] = set;
-    symbols[slot] = symbol;
-    steps[AFTER + slot] = after;
-    after
+
+    // The step of a set, remembered or computed.
+    pub(crate) fn step(&mut self, states: &States, set: u64, symbol: u8) -> u64
+        requires { Remembers (book_of states.now.book.now) self.old }
+        ensures value { result ≡ focus_step (book_of states.now.book.now) set symbol }
+        ensures remembers { Remembers (book_of states.now.book.now) self.new }
+    {
+        let slot = slot_of(set, symbol);
+        if self.before[slot] == set {
+            if self.symbols[slot] == symbol {
+                return self.after[slot];
+            }
+        }
+        let after = sets::stepping::focus_step(states, set, symbol);
+        self.before[slot] = set;
+        self.symbols[slot] = symbol;
+        self.after[slot] = after;
+        after
+    }
 }

@@ -1,8 +1,8 @@
 // The cases of a book whose sixteen rules each put in eight symbols at every position, the tape's end among them.
 use super::tape_of;
 use book::{END_SIZE, RULE_SIZE, RULES, STATE_SIZE, WORD};
-use cases::expect::FULL;
-use cases::{accepted, account_case, ample, build_case, check_case, refused, rewrite_case};
+use cases::expect::Tables;
+use cases::{Case, Lent, Want};
 use rewriter::{LINE_WORDS, LONGEST_TAPE};
 use std::io;
 
@@ -32,30 +32,23 @@ fn repeat(bytes: &mut [u8]) {
     }
 }
 
+fn case(want: Want, note: &[u8]) -> Case<'_> {
+    Case {
+        lent: Lent::ample(),
+        want,
+        note,
+    }
+}
+
 fn full_cases(rt: &impl Print, book: &[u8], tape: &[u8]) -> io::Result<()> {
-    check_case(
-        rt,
-        book,
-        accepted(FULL, RULES, 3 * RULES, 0),
-        b"16 rules that put in everywhere",
-    )?;
-    build_case(rt, book, ample(), accepted(FULL, 1, 1, 0), b"no arc")?;
-    rewrite_case(
-        rt,
-        book,
-        tape,
-        ample(),
-        refused(FULL, 15, LONGEST_OUT),
-        b"the longest output",
-    )?;
-    account_case(
-        rt,
-        book,
-        tape,
-        ample(),
-        refused(FULL, 15, LINE_WORDS * RULES * POSITIONS),
-        b"65,552 candidates",
-    )
+    let rules = Want::accepted(Tables::Full, [RULES, 3 * RULES, 0]);
+    let sets = Want::accepted(Tables::Full, [1, 1, 0]);
+    let symbols = Want::refused(Tables::Full, 15, LONGEST_OUT);
+    let words = Want::refused(Tables::Full, 15, LINE_WORDS * RULES * POSITIONS);
+    case(rules, b"16 rules that put in everywhere").check(rt, book)?;
+    case(sets, b"no arc").build(rt, book)?;
+    case(symbols, b"the longest output").rewrite(rt, book, tape)?;
+    case(words, b"65,552 candidates").account(rt, book, tape)
 }
 
 pub(crate) fn all(rt: &impl Print) -> io::Result<()> {

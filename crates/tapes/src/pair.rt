@@ -1,13 +1,8 @@
 // The cases of the book PAIR: room, tapes at the limit, symbols that are none.
-ghost use Rattle.cases.specs.Room.{Room};
-
 use super::tape_of;
 use book::SYMBOLS;
-use cases::expect::PAIR;
-use cases::{
-    Lent, TOO_LONG, Want, accepted, account_case, ample, books, build_case, check_case, front,
-    lend, refused, rewrite_case,
-};
+use cases::expect::Tables;
+use cases::{Case, Lent, TOO_LONG, Want, books, front};
 use rewriter::{LINE_WORDS, LONGEST_TAPE};
 use sets::{ROW_BYTES, SET_WORDS};
 use std::io;
@@ -15,245 +10,206 @@ use std::io;
 // The longest tape, 0 1 0 1 .., has so many ones.
 const ONES: usize = LONGEST_TAPE / 2;
 
+// Its output is 0 7 8 0 7 8, and its account has two lines.
+const TAPE: [u8; 4] = [0, 1, 0, 1];
+
+fn accepted(counts: [usize; 3]) -> Want {
+    Want::accepted(Tables::Pair, counts)
+}
+
+// the reply as document 01 numbers it (see `Want::refused`)
+fn refused(reply: u8, place: usize) -> Want {
+    Want::refused(Tables::Pair, reply, place)
+}
+
+fn pair_check(rt: &impl Print, book: &[u8]) -> io::Result<()> {
+    let case = Case {
+        lent: Lent::ample(),
+        want: accepted([1, 4, 1]),
+        note: b"a pair for each 1",
+    };
+    case.check(rt, book)
+}
+
 fn pair_build(rt: &impl Print, book: &[u8]) -> io::Result<()> {
-    build_case(rt, book, ample(), accepted(PAIR, 1, 2, 0), b"ample room")?;
-    build_case(
-        rt,
-        book,
-        lend(ROW_BYTES, SET_WORDS, 0, 0, 0, 0),
-        accepted(PAIR, 1, 2, 0),
-        b"just enough",
-    )?;
-    build_case(
-        rt,
-        book,
-        lend(ROW_BYTES - 1, SET_WORDS, 0, 0, 0, 0),
-        refused(PAIR, 11, 0),
-        b"rows too short",
-    )?;
-    build_case(
-        rt,
-        book,
-        lend(ROW_BYTES, SET_WORDS - 1, 0, 0, 0, 0),
-        refused(PAIR, 11, 0),
-        b"sets too short",
-    )
+    let cases = [
+        Case {
+            lent: Lent::ample(),
+            want: accepted([1, 2, 0]),
+            note: b"ample room",
+        },
+        Case {
+            lent: Lent::new(ROW_BYTES, SET_WORDS, 0, 0, 0, 0),
+            want: accepted([1, 2, 0]),
+            note: b"just enough",
+        },
+        Case {
+            lent: Lent::new(ROW_BYTES - 1, SET_WORDS, 0, 0, 0, 0),
+            want: refused(11, 0),
+            note: b"rows too short",
+        },
+        Case {
+            lent: Lent::new(ROW_BYTES, SET_WORDS - 1, 0, 0, 0, 0),
+            want: refused(11, 0),
+            note: b"sets too short",
+        },
+    ];
+    for case in cases {
+        case.build(rt, book)?;
+    }
+    Ok(())
 }
 
-// The tape is 0 1 0 1, the output 0 7 8 0 7 8.
-fn pair_rewrite_case(rt: &impl Print, lent: Lent, want: Want, note: &[u8]) -> io::Result<()>
-    requires { Room lent }
-{
-    let book = books::PAIR;
-    rewrite_case(
-        rt,
-        front(&book, books::PAIR_LENGTH),
-        &[0, 1, 0, 1],
-        lent,
-        want,
-        note,
-    )
+// Rows of cases, here and below: values, and no code to share.
+fn pair_rewrite(rt: &impl Print, book: &[u8]) -> io::Result<()> {
+    let cases = [
+        Case {
+            lent: Lent::ample(),
+            want: accepted([6, 2, 0]),
+            note: b"ample room",
+        },
+        Case {
+            lent: Lent::new(ROW_BYTES, SET_WORDS, 5, 6, 6, 0),
+            want: accepted([6, 2, 0]),
+            note: b"just enough",
+        },
+        Case {
+            lent: Lent::new(ROW_BYTES - 1, SET_WORDS, 4, 5, 5, 0),
+            want: refused(11, 0),
+            note: b"all too short",
+        },
+        Case {
+            lent: Lent::new(ROW_BYTES, SET_WORDS - 1, 5, 6, 6, 0),
+            want: refused(11, 0),
+            note: b"sets too short",
+        },
+        Case {
+            lent: Lent::new(ROW_BYTES, SET_WORDS, 4, 5, 5, 0),
+            want: refused(12, 0),
+            note: b"scratch too short",
+        },
+        Case {
+            lent: Lent::new(ROW_BYTES, SET_WORDS, 5, 5, 6, 0),
+            want: refused(15, 6),
+            note: b"output too short",
+        },
+        Case {
+            lent: Lent::new(ROW_BYTES, SET_WORDS, 5, 6, 5, 0),
+            want: refused(15, 6),
+            note: b"origins too short",
+        },
+    ];
+    for case in cases {
+        case.rewrite(rt, book, &TAPE)?;
+    }
+    Ok(())
 }
 
-fn pair_rewrite(rt: &impl Print) -> io::Result<()> {
-    pair_rewrite_case(rt, ample(), accepted(PAIR, 6, 2, 0), b"ample room")?;
-    pair_rewrite_case(
-        rt,
-        lend(ROW_BYTES, SET_WORDS, 5, 6, 6, 0),
-        accepted(PAIR, 6, 2, 0),
-        b"just enough",
-    )?;
-    pair_rewrite_case(
-        rt,
-        lend(ROW_BYTES - 1, SET_WORDS, 4, 5, 5, 0),
-        refused(PAIR, 11, 0),
-        b"all too short",
-    )?;
-    pair_rewrite_case(
-        rt,
-        lend(ROW_BYTES, SET_WORDS - 1, 5, 6, 6, 0),
-        refused(PAIR, 11, 0),
-        b"sets too short",
-    )?;
-    pair_rewrite_case(
-        rt,
-        lend(ROW_BYTES, SET_WORDS, 4, 5, 5, 0),
-        refused(PAIR, 12, 0),
-        b"scratch too short",
-    )?;
-    pair_rewrite_case(
-        rt,
-        lend(ROW_BYTES, SET_WORDS, 5, 5, 6, 0),
-        refused(PAIR, 15, 6),
-        b"output too short",
-    )?;
-    pair_rewrite_case(
-        rt,
-        lend(ROW_BYTES, SET_WORDS, 5, 6, 5, 0),
-        refused(PAIR, 15, 6),
-        b"origins too short",
-    )
-}
-
-fn pair_account_case(rt: &impl Print, lent: Lent, want: Want, note: &[u8]) -> io::Result<()>
-    requires { Room lent }
-{
-    let book = books::PAIR;
-    account_case(
-        rt,
-        front(&book, books::PAIR_LENGTH),
-        &[0, 1, 0, 1],
-        lent,
-        want,
-        note,
-    )
-}
-
-fn pair_account(rt: &impl Print) -> io::Result<()> {
-    pair_account_case(rt, ample(), accepted(PAIR, 2, 0, 0), b"ample room")?;
-    pair_account_case(
-        rt,
-        lend(ROW_BYTES, SET_WORDS, 5, 0, 0, 2 * LINE_WORDS),
-        accepted(PAIR, 2, 0, 0),
-        b"just enough",
-    )?;
-    pair_account_case(
-        rt,
-        lend(ROW_BYTES - 1, SET_WORDS, 4, 0, 0, 2 * LINE_WORDS - 1),
-        refused(PAIR, 11, 0),
-        b"all too short",
-    )?;
-    pair_account_case(
-        rt,
-        lend(ROW_BYTES, SET_WORDS - 1, 5, 0, 0, 2 * LINE_WORDS),
-        refused(PAIR, 11, 0),
-        b"sets too short",
-    )?;
-    pair_account_case(
-        rt,
-        lend(ROW_BYTES, SET_WORDS, 4, 0, 0, 2 * LINE_WORDS - 1),
-        refused(PAIR, 12, 0),
-        b"scratch too short",
-    )?;
-    pair_account_case(
-        rt,
-        lend(ROW_BYTES, SET_WORDS, 5, 0, 0, 2 * LINE_WORDS - 1),
-        refused(PAIR, 15, 2 * LINE_WORDS),
-        b"account too short",
-    )
-}
-
-// "first such position", whatever the room
-fn bad_symbols(rt: &impl Print, book: &[u8]) -> io::Result<()> {
-    rewrite_case(
-        rt,
-        book,
-        &[0, 1, SYMBOLS, 255],
-        ample(),
-        refused(PAIR, 10, 2),
-        b"symbol 32",
-    )?;
-    account_case(
-        rt,
-        book,
-        &[0, 1, SYMBOLS, 255],
-        ample(),
-        refused(PAIR, 10, 2),
-        b"symbol 32",
-    )?;
-    rewrite_case(
-        rt,
-        book,
-        &[255],
-        lend(0, 0, 0, 0, 0, 0),
-        refused(PAIR, 10, 0),
-        b"no room either",
-    )?;
-    account_case(
-        rt,
-        book,
-        &[255],
-        lend(0, 0, 0, 0, 0, 0),
-        refused(PAIR, 10, 0),
-        b"no room either",
-    )
+fn pair_account(rt: &impl Print, book: &[u8]) -> io::Result<()> {
+    let cases = [
+        Case {
+            lent: Lent::ample(),
+            want: accepted([2, 0, 0]),
+            note: b"ample room",
+        },
+        Case {
+            lent: Lent::new(ROW_BYTES, SET_WORDS, 5, 0, 0, 2 * LINE_WORDS),
+            want: accepted([2, 0, 0]),
+            note: b"just enough",
+        },
+        Case {
+            lent: Lent::new(ROW_BYTES - 1, SET_WORDS, 4, 0, 0, 2 * LINE_WORDS - 1),
+            want: refused(11, 0),
+            note: b"all too short",
+        },
+        Case {
+            lent: Lent::new(ROW_BYTES, SET_WORDS - 1, 5, 0, 0, 2 * LINE_WORDS),
+            want: refused(11, 0),
+            note: b"sets too short",
+        },
+        Case {
+            lent: Lent::new(ROW_BYTES, SET_WORDS, 4, 0, 0, 2 * LINE_WORDS - 1),
+            want: refused(12, 0),
+            note: b"scratch too short",
+        },
+        Case {
+            lent: Lent::new(ROW_BYTES, SET_WORDS, 5, 0, 0, 2 * LINE_WORDS - 1),
+            want: refused(15, 2 * LINE_WORDS),
+            note: b"account too short",
+        },
+    ];
+    for case in cases {
+        case.account(rt, book, &TAPE)?;
+    }
+    Ok(())
 }
 
 // "4,096 symbols accepted, 4,097 refused 9"
 fn longest(rt: &impl Print, book: &[u8]) -> io::Result<()> {
     let mut tape = [0u8; LONGEST_TAPE];
     tape_of(&mut tape);
-    rewrite_case(
-        rt,
-        book,
-        &tape,
-        ample(),
-        accepted(PAIR, LONGEST_TAPE + ONES, ONES, 0),
-        b"4,096 symbols",
-    )?;
-    account_case(
-        rt,
-        book,
-        &tape,
-        ample(),
-        accepted(PAIR, ONES, 0, 0),
-        b"4,096 symbols",
-    )
+    let rewritten = Case {
+        lent: Lent::ample(),
+        want: accepted([LONGEST_TAPE + ONES, ONES, 0]),
+        note: b"4,096 symbols",
+    };
+    let accounted = Case {
+        lent: Lent::ample(),
+        want: accepted([ONES, 0, 0]),
+        note: b"4,096 symbols",
+    };
+    rewritten.rewrite(rt, book, &tape)?;
+    accounted.account(rt, book, &tape)
 }
 
+// What REWRITE and ACCOUNT refuse alike.
+fn both_refuse(rt: &impl Print, book: &[u8], tape: &[u8], case: Case<'_>) -> io::Result<()> {
+    case.rewrite(rt, book, tape)?;
+    case.account(rt, book, tape)
+}
+
+// A tape that is too long, and one without symbols, also where there is no room.
 fn too_long(rt: &impl Print, book: &[u8]) -> io::Result<()> {
     let mut tape = [0u8; TOO_LONG];
     tape_of(&mut tape);
-    rewrite_case(
-        rt,
-        book,
-        &tape,
-        ample(),
-        refused(PAIR, 9, 0),
-        b"4,097 symbols",
-    )?;
-    account_case(
-        rt,
-        book,
-        &tape,
-        ample(),
-        refused(PAIR, 9, 0),
-        b"4,097 symbols",
-    )
+    let ample = Case {
+        lent: Lent::ample(),
+        want: refused(9, 0),
+        note: b"4,097 symbols",
+    };
+    let none = Case {
+        lent: Lent::new(0, 0, 0, 0, 0, 0),
+        want: refused(9, 0),
+        note: b"no symbols and no room either",
+    };
+    both_refuse(rt, book, &tape, ample)?;
+    both_refuse(rt, book, &[SYMBOLS; TOO_LONG], none)
 }
 
-fn all_wrong(rt: &impl Print, book: &[u8]) -> io::Result<()> {
-    let tape = [SYMBOLS; TOO_LONG];
-    rewrite_case(
-        rt,
-        book,
-        &tape,
-        lend(0, 0, 0, 0, 0, 0),
-        refused(PAIR, 9, 0),
-        b"no symbols and no room either",
-    )?;
-    account_case(
-        rt,
-        book,
-        &tape,
-        lend(0, 0, 0, 0, 0, 0),
-        refused(PAIR, 9, 0),
-        b"no symbols and no room either",
-    )
-}
-
-fn pair_book(rt: &impl Print, book: &[u8]) -> io::Result<()> {
-    check_case(rt, book, accepted(PAIR, 1, 4, 1), b"a pair for each 1")?;
-    pair_build(rt, book)?;
-    pair_rewrite(rt)?;
-    pair_account(rt)?;
-    longest(rt, book)?;
-    too_long(rt, book)?;
-    all_wrong(rt, book)?;
-    bad_symbols(rt, book)
+// "first such position", whatever the room
+fn bad_symbols(rt: &impl Print, book: &[u8]) -> io::Result<()> {
+    let ample = Case {
+        lent: Lent::ample(),
+        want: refused(10, 2),
+        note: b"symbol 32",
+    };
+    let none = Case {
+        lent: Lent::new(0, 0, 0, 0, 0, 0),
+        want: refused(10, 0),
+        note: b"no room either",
+    };
+    both_refuse(rt, book, &[0, 1, SYMBOLS, 255], ample)?;
+    both_refuse(rt, book, &[255], none)
 }
 
 pub(crate) fn all(rt: &impl Print) -> io::Result<()> {
-    let book = books::PAIR;
-    pair_book(rt, front(&book, books::PAIR_LENGTH))
+    let bytes = books::PAIR;
+    let book = front(&bytes, books::PAIR_LENGTH);
+    pair_check(rt, book)?;
+    pair_build(rt, book)?;
+    pair_rewrite(rt, book)?;
+    pair_account(rt, book)?;
+    longest(rt, book)?;
+    too_long(rt, book)?;
+    bad_symbols(rt, book)
 }

@@ -1,4 +1,4 @@
--- Laws of a text.
+-- A law of putting.
 pub mod Putting
 -- That contracts determine results.
 pub mod One

@@ -1,22 +1,15 @@
--- `symbols_fit` meets its contract: after i turns the answer is that of the first i symbol bytes. Assumes nothing.
-use mathlib.Core.Path.{◌≡◌, ◌∙◌}
-use native.Mathlib.Omega.{arith}
-use Rattle.book.proofs.Laws.{symbols_none, symbols_more}
-use Rattle.book.specs.Format.{longest_word}
+-- `symbols_fit` meets its contract: each of the eight symbol bytes is asked. Assumes nothing.
+use borrow.Author.Rules.{rules}
+use mathlib.Core.Path.{refl, ◌∙◌}
+use Prim.Native.Nat.{◌+◌}
+use Rattle.std.proofs.lemmas.Iterator.{YieldsList-from_range}
+use Rattle.std.proofs.lemmas.Iterator.Search.{all_from_yields_List}
+use Rattle.book.specs.Format.{byte, symbol_fits}
+use Rattle.book.proofs.Laws.{symbols_all}
 use Rattle.book.proofs.symbols_fit.Goals as goal
-use Rattle.book.proofs.symbols_fit.Goals.{then-ok, else-ok}
-
-pub loop-i-init : goal.loop-i-init
-loop-i-init c = (omega arith, symbols_none _ _ _)
-
-pub loop-i-preserved : goal.loop-i-preserved
-loop-i-preserved c = (
-  omega arith,
-  elim c.if-ok.branch [
-    | then-ok w ↦ w.ok-is ∙ rw (symbols_more, ← c.loop-i.invariant.1, w.if-ok.true) c.symbol_fits-one.ensures
-    | else-ok w ↦ w.ok-is ∙ rw (symbols_more, ← c.loop-i.invariant.1, w.if-ok.false)
-  ],
-)
 
 pub returns : goal.returns
-returns c = let e : c.loop-i.i ≡ longest_word = omega arith in rw (← e) c.loop-i.invariant.1
+returns c =
+    all_from_yields_List (λ i. symbol_fits c.args.n i (byte c.args.s.now (c.args.p + i))) _ _ c.all.result c.all.ensures.ran
+    (YieldsList-from_range 0 8 8 refl refl) (λ x b q k. search rules)
+    ∙ symbols_all c.args.s.now c.args.p c.args.n

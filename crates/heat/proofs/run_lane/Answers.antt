@@ -1,44 +1,28 @@
 -- `heat::run_lane` meets its contract: 17, or the lane's REWRITE into what is left of the outputs. Assumes nothing.
-use Prim.Native.Nat.{◌+◌, ◌≤◌}
-use mathlib.Core.Path.{refl, sym, ◌∙◌}
-use native.Mathlib.Omega.{arith}
-use lib.ListN.{length}
-use borrow.Author.Tests.{ltb-true, ltb-false}
+use Rattle.std.proofs.Common.{◌≡◌, ◌+◌, ◌≤◌, length, ap, arith}
+use Rattle.output.specs.Results.{rewritten}
+use Rattle.heat.specs.declared.Lane.{Lane}
+use Rattle.heat.specs.Lanes.{answered, leaving}
 use Rattle.heat.proofs.Room.{lane_outside, lane_inside, used_fits}
-use Rattle.heat.specs.Lanes.{leaving}
 use Rattle.heat.proofs.run_lane.Goals as goal
 
-pub slice_bounds-rewrite_built-end : goal.slice_bounds-rewrite_built-end
-slice_bounds-rewrite_built-end c = ltb-false _ _ (sym c.leaves.ensures ∙ c.if-leaves.false)
+pub returns-in_default : goal.returns-in_default
+returns-in_default c =
+    let e : c.answer.new.self ≡ answered c.args.lane.now 17 0 0 0 = rw c.at.ensures at c.answer.ensures in
+    lane_outside c.args.book.now c.args.tapes.now c.args.rows.now c.args.sets.now c.args.lane.now
+    (leaving c.args.from c.args.scratch.now c.args.out.now c.args.origins.now) (omega (arith, c.in_default.ensures)) _ e
 
-pub returns-then-leaves : goal.returns-then-leaves
-returns-then-leaves c =
-    record {
-      origins_after = lane_outside c.args.book.now c.args.tapes.now c.args.rows.now c.args.sets.now c.args.lane
-          (leaving c.args.from c.args.scratch.now c.args.out.now c.args.origins.now) (ltb-true _ _ (sym c.leaves.ensures ∙ c.if-leaves.true)) _
-          c.answered.ensures;
-      rows_unchanged = (refl, refl);
-    }
-
-pub overflow_add-end : goal.overflow_add-end
-overflow_add-end c =
-    let k : c.args.lane.start + c.args.lane.length ≤ length c.args.tapes.now = ltb-false _ _ (sym c.leaves.ensures ∙ c.if-leaves.false) in
-    omega (arith, c.well_formed, k)
-
-pub overflow_add-after : goal.overflow_add-after
-overflow_add-after c =
-    let h : c.args.from + c.rewrite_built-done.result.length ≤ length c.args.out.now = used_fits c.args.book.now c.args.tapes.now c.args.rows.now c.args.sets.now c.args.lane
-    (leaving c.args.from c.args.scratch.now c.args.out.now c.args.origins.now) c.rewrite_built-done.result _ _ _ c.rewrite_built-done.ensures c.requires.0
+pub overflow_add-result : goal.overflow_add-result
+overflow_add-result c =
+    let out : c.answer-2.new.self.out ≡ (rewritten c.rewrite_built-done.result).length = ap (λ (l : Lane). l.out) c.answer-2.ensures in
+    let h : c.args.from + (rewritten c.rewrite_built-done.result).length ≤ length c.args.out.now =
+    used_fits c.args.book.now c.args.tapes.now c.args.rows.now c.args.sets.now c.args.lane.now
+    (leaving c.args.from c.args.scratch.now c.args.out.now c.args.origins.now) _ c.in-Some.ensures.1 (rewritten c.rewrite_built-done.result) _ _ _ c.rewrite_built-done.ensures c.requires.room.0
     in
-    omega (arith, c.well_formed, h)
+    omega (arith, c.well_formed, h, out)
 
 pub returns : goal.returns
 returns c =
-    let inside = ltb-false _ _
-    (sym c.leaves.ensures ∙ c.if-leaves.false) in
-    record {
-      origins_after = lane_inside c.args.book.now c.args.tapes.now c.args.rows.now c.args.sets.now c.args.lane
-          (leaving c.args.from c.args.scratch.now c.args.out.now c.args.origins.now) c.rewrite_built-done.result _ _ _ c.rewrite_built-done.ensures
-          inside _ c.answered-2.ensures;
-      rows_unchanged = (refl, refl);
-    }
+    lane_inside c.args.book.now c.args.tapes.now c.args.rows.now c.args.sets.now c.args.lane.now
+    (leaving c.args.from c.args.scratch.now c.args.out.now c.args.origins.now) _ c.in-Some.ensures.1 (rewritten c.rewrite_built-done.result) _ _ _ c.rewrite_built-done.ensures
+    c.in-Some.ensures.0 _ c.answer-2.ensures

@@ -1,16 +1,16 @@
-use mathlib.Core.Path.{sym}
-use native.Mathlib.Omega.{arith}
-use Rattle.att.proofs.Parting.{capped_small, capped_big}
+use Rattle.std.proofs.Common.{arith, ◌∙◌, ap, sym}
+use Rattle.att.specs.Results.{number_read}
+use Rattle.att.proofs.Results.{passed_on}
+use Rattle.att.proofs.Parting.{checked_read, checked_ok, refused_high, capped_big}
 use Rattle.att.proofs.fields.more.Goals as goal
 
--- src/fields.rt:96:9
-pub returns-then-v-gt-MOST_STATE : goal.returns-then-v-gt-MOST_STATE
-returns-then-v-gt-MOST_STATE c = sym (capped_big _ (omega arith))
+pub returns-in_err-tens : goal.returns-in_err-tens
+returns-in_err-tens c =
+    let e = ap number_read c.in_err-tens.ensures.value ∙ checked_read _ _ c.checked_mul.ensures in
+    let h = refused_high _ _ e in
+    ap number_read (passed_on _ _ c.from_residual.ensures.1) ∙ e ∙ capped_big _ h.0 ∙ sym (capped_big _ (omega arith))
 
--- src/fields.rt:100:9
-pub returns-then-w-gt-MOST_STATE : goal.returns-then-w-gt-MOST_STATE
-returns-then-w-gt-MOST_STATE c = sym (capped_big _ (omega arith))
-
--- src/fields.rt:91:1
 pub returns : goal.returns
-returns c = sym (capped_small _ (omega arith))
+returns c =
+    let t = checked_ok _ _ _ _ c.checked_mul.ensures c.in_ok-tens.ensures.value in
+    ap number_read c.ok_or-2.ensures.value ∙ checked_read _ _ c.checked_add.ensures ∙ rw (t, c.from.ensures)

@@ -1,28 +1,36 @@
-use Rattle.att.proofs.Parting.{digits_start, digits_more, number_none, number_low, number_high, number_end}
+use Rattle.std.proofs.Common.{rules, tests, arith, ◌∙◌, ap, sym}
+use Rattle.std.proofs.lemmas.Iterator.{YieldsList-from_slice}
+use Rattle.std.proofs.lemmas.Iterator.Search.{all_from_yields_List}
+use Rattle.att.specs.Fields.{digit}
+use Rattle.att.specs.Results.{number_read}
+use Rattle.att.proofs.Results.{passed_on}
+use Rattle.att.proofs.Parting.{digits_start, number_none, number_bad, number_end, number_high, digits_more, refused_high}
+use Rattle.att.proofs.fields.number.Goals.{then-is_empty-via-then-is_empty, then-is_empty-via-else-is_empty+then-not-all}
 use Rattle.att.proofs.fields.number.Goals as goal
 
--- src/fields.rt:72:9
-pub returns-then-f-eq0 : goal.returns-then-f-eq0
-returns-then-f-eq0 c = number_none _ c.if-f-eq0.true
+pub returns-then-is_empty : goal.returns-then-is_empty
+returns-then-is_empty c =
+    elim c.then-is_empty.branch [
+      | then-is_empty-via-then-is_empty w ↦ number_none _ (search (rules, tests))
+      | then-is_empty-via-else-is_empty+then-not-all w ↦
+          number_bad _ (search (rules, tests))
+          (sym (all_from_yields_List digit _ _ _ w.all.ensures.ran (YieldsList-from_slice c.args.f.now cc) (λ x b q k. search (rules, tests)))
+          ∙ w.if-not-all.true)
+    ]
 
--- src/fields.rt:76:5
-pub loop-i-init : goal.loop-i-init
-loop-i-init c = digits_start _ c.if-f-eq0.false
+pub loop-d-init : goal.loop-d-init
+loop-d-init c =
+    digits_start _ (search (rules, tests))
+    (sym (all_from_yields_List digit _ _ _ c.all.ensures.ran (YieldsList-from_slice c.args.f.now cc) (λ x b q k. search (rules, tests)))
+    ∙ c.if-not-all.false)
 
--- src/fields.rt:79:13
-pub returns-then-d-lt48 : goal.returns-then-d-lt48
-returns-then-d-lt48 c = number_low _ _ _ c.loop-i.invariant c.loop-i-test.true c.if-d-lt48.true
+pub returns-in_err-v : goal.returns-in_err-v
+returns-in_err-v c =
+    let d = digits_more _ _ _ c.loop-d.invariant c.loop-d-test.true _ c.in_err-v.ensures in
+    ap number_read (passed_on _ _ c.from_residual.ensures.1) ∙ number_high _ _ _ d (refused_high _ _ c.in_err-v.ensures).1
 
--- src/fields.rt:82:13
-pub returns-then-d-gt57 : goal.returns-then-d-gt57
-returns-then-d-gt57 c = number_high _ _ _ c.loop-i.invariant c.loop-i-test.true c.if-d-gt57.true
+pub loop-d-preserved : goal.loop-d-preserved
+loop-d-preserved c = digits_more _ _ _ c.loop-d.invariant c.loop-d-test.true _ c.in_ok-v.ensures
 
--- src/fields.rt:76:5
-pub loop-i-preserved : goal.loop-i-preserved
-loop-i-preserved c =
-    digits_more _ _ _ c.loop-i.invariant c.loop-i-test.true
-    c.if-d-lt48.false c.if-d-gt57.false _ c.more-v.ensures
-
--- src/fields.rt:68:1
 pub returns : goal.returns
-returns c = number_end _ _ _ c.loop-i.invariant c.loop-i-test.false
+returns c = number_end _ _ _ c.loop-d.invariant (omega arith)

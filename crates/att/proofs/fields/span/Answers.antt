@@ -1,15 +1,11 @@
-use native.Mathlib.Omega.{arith}
-use Rattle.att.proofs.Parting.{span_met, span_more, span_end}
+use Rattle.std.proofs.Common.{rules, tests, eqb, ◌∙◌}
+use Rattle.std.proofs.lemmas.Iterator.{YieldsList-from_slice}
+use Rattle.std.proofs.lemmas.Iterator.Search.{position_from_yields_List}
+use Rattle.att.proofs.Parting.{span_is}
 use Rattle.att.proofs.fields.span.Goals as goal
 
--- src/fields.rt:26:13
-pub returns-then-s-i : goal.returns-then-s-i
-returns-then-s-i c = span_met _ _ _ c.loop-i.invariant.1 c.loop-i-test.true c.if-s-i.true
-
--- src/fields.rt:24:5
-pub loop-i-preserved : goal.loop-i-preserved
-loop-i-preserved c = (omega arith, span_more _ _ _ c.loop-i.invariant.1 c.loop-i-test.true c.if-s-i.false)
-
--- src/fields.rt:20:1
 pub returns : goal.returns
-returns c = span_end _ _ _ c.loop-i.invariant.1 c.loop-i.invariant.0 c.loop-i-test.false
+returns c =
+    c.unwrap_or.ensures
+    ∙ span_is c.args.b c.args.s.now _ (position_from_yields_List (λ x. eqb x c.args.b) _ _ _ c.position.ensures.ran (YieldsList-from_slice c.args.s.now cc)
+    (λ x b q k. search (rules, tests)))

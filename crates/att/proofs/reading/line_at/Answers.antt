@@ -1,24 +1,24 @@
-use mathlib.Core.Path.{◌∙◌}
-use borrow.Author.Tests.{le-leb}
-use Rattle.att.specs.Reading.{line_at}
-use Rattle.att.proofs.Rows.{line_length_lem, line_ended, line_cut}
+use Rattle.std.proofs.Common.{◌∙◌, ap, arith, Ok, Err}
+use Rattle.att.specs.Results.{line_found}
+use Rattle.att.proofs.Results.{passed_on}
+use Rattle.att.proofs.Rows.{line_none, line_length_lem, line_step, next_within}
 use Rattle.att.proofs.reading.line_at.Goals as goal
 
--- src/reading.rt:110:9
 pub returns-then-text-at : goal.returns-then-text-at
-unfolding line_at
-returns-then-text-at c = simp (le-leb _ _ c.if-text-at.true)
+returns-then-text-at c = line_none _ _ c.if-text-at.true
 
--- src/reading.rt:114:9
-pub slice_bounds-l-end : goal.slice_bounds-l-end
-slice_bounds-l-end c =
-    line_length_lem c.args.text.now _ c.if-text-at.false _
-    c.span-e.ensures
+pub slice_bounds-line_in-end : goal.slice_bounds-line_in-end
+slice_bounds-line_in-end c = line_length_lem c.args.text.now _ c.if-text-at.false _ c.span-e.ensures
 
--- src/reading.rt:116:9
-pub returns-then-e-rest : goal.returns-then-e-rest
-returns-then-e-rest c = c.line_in.ensures ∙ line_ended _ _ c.if-text-at.false _ c.span-e.ensures c.if-e-rest.true
+pub returns-in_err-line : goal.returns-in_err-line
+returns-in_err-line c =
+    ap line_found (passed_on _ _ c.from_residual.ensures.1) ∙ line_step c.args.text.now _ c.if-text-at.false _ c.span-e.ensures (Err _) c.in_err-line.ensures
 
--- src/reading.rt:106:1
+pub overflow_add-result : goal.overflow_add-result
+overflow_add-result c = let h = next_within c.args.text.now _ c.if-text-at.false _ c.span-e.ensures _ (c.in_ok-line.ensures 0) in omega arith
+
+pub overflow_add-result-2 : goal.overflow_add-result-2
+overflow_add-result-2 c = let h = next_within c.args.text.now _ c.if-text-at.false _ c.span-e.ensures _ (c.in_ok-line.ensures 0) in omega arith
+
 pub returns : goal.returns
-returns c = c.line_in-2.ensures ∙ line_cut _ _ c.if-text-at.false _ c.span-e.ensures c.if-e-rest.false
+returns c = line_step c.args.text.now _ c.if-text-at.false _ c.span-e.ensures (Ok _) c.in_ok-line.ensures

@@ -1,39 +1,24 @@
-use mathlib.Core.Path.{◌∙◌}
-use native.Mathlib.Omega.{arith}
-use Rattle.att.proofs.Rows.{line_two, line_four, line_open, line_final, line_arc, line_other}
+-- That the number of fields is none of those tested is left to `omega`, so that a test that changes is refused as a fact and not as a name.
+use Rattle.std.proofs.Common.{◌∙◌, arith}
+use Rattle.att.proofs.Rows.{line_even, line_open, line_final, line_arc, line_other}
 use Rattle.att.proofs.reading.line_in.Goals as goal
 
--- src/reading.rt:88:9
 pub returns-then-n-eq2 : goal.returns-then-n-eq2
-returns-then-n-eq2 c = line_two _ _ _ _ c.field_count-n.ensures (omega arith)
+returns-then-n-eq2 c next = line_even _ _ _ _ c.field_count-n.ensures c.then-n-eq2.either
 
--- src/reading.rt:91:9
-pub returns-then-n-eq4 : goal.returns-then-n-eq4
-returns-then-n-eq4 c = line_four _ _ _ _ c.field_count-n.ensures (λ e. (let z : ⊥ = omega arith in z)) (omega arith)
-
--- src/reading.rt:94:9
 pub returns-then-not-ended : goal.returns-then-not-ended
-returns-then-not-ended c =
-    line_open _ _ _ _ c.field_count-n.ensures (λ e. (let z : ⊥ = omega arith in z))
-    (λ e. (let z : ⊥ = omega arith in z)) c.if-not-ended.true
+returns-then-not-ended c next = line_open _ _ _ _ c.field_count-n.ensures (omega arith) (omega arith) c.if-not-ended.true
 
--- src/reading.rt:97:9
-pub returns-then-n-eq1 : goal.returns-then-n-eq1
-returns-then-n-eq1 c =
-    c.final_line.ensures
-    ∙ line_final _ _ _ _ c.field_count-n.ensures (λ e. (let z : ⊥ = omega arith in z))
-    (λ e. (let z : ⊥ = omega arith in z)) c.if-not-ended.false (omega arith)
+pub returns-in-1 : goal.returns-in-1
+returns-in-1 c next =
+    c.final_line.ensures next
+    ∙ line_final _ _ _ _ c.field_count-n.ensures (omega arith) (omega arith) c.if-not-ended.false c.in-1.is
 
--- src/reading.rt:100:9
-pub returns-then-n-eq3 : goal.returns-then-n-eq3
-returns-then-n-eq3 c =
-    c.arc_line.ensures
-    ∙ line_arc _ _ _ _ c.field_count-n.ensures (λ e. (let z : ⊥ = omega arith in z))
-    (λ e. (let z : ⊥ = omega arith in z)) c.if-not-ended.false (λ e. (let z : ⊥ = omega arith in z)) (omega arith)
+pub returns-in-3 : goal.returns-in-3
+returns-in-3 c next =
+    c.arc_line.ensures next
+    ∙ line_arc _ _ _ _ c.field_count-n.ensures (omega arith) (omega arith) c.if-not-ended.false (omega (arith, c.in-3.is)) c.in-3.is
 
--- src/reading.rt:83:1
-pub returns : goal.returns
-returns c =
-    line_other _ _ _ _ c.field_count-n.ensures (λ e. (let z : ⊥ = omega arith in z))
-    (λ e. (let z : ⊥ = omega arith in z)) c.if-not-ended.false (λ e. (let z : ⊥ = omega arith in z))
-    (λ e. (let z : ⊥ = omega arith in z))
+pub returns-in_default : goal.returns-in_default
+returns-in_default c next =
+    line_other _ _ _ _ c.field_count-n.ensures (omega arith) (omega arith) c.if-not-ended.false (omega arith) (omega arith)

@@ -1,12 +1,9 @@
--- `outline::outline_of` meets its contract: one walk over the records of an accepted book, with the outline as far as it has come (`Outlining`); an
--- unknown kind is not met. Assumes nothing.
-use Prim.Native.Nat.{◌-◌}
-use lib.ListN.{length}
+-- `outline::outline_of` meets its contract: one walk over the records of an accepted book, with the outline as far as it has come (`Outlining`).
+-- Assumes nothing.
+use mathlib.Core.Path.{◌≡◌}
 use Rattle.book.proofs.Outlining.{Outlining}
 use Rattle.book.proofs.outline.outline_of.Given as goal
 
-abbrev pub invariant-loop-rules : goal.invariant-loop-rules
-invariant-loop-rules l = Outlining l.s l.at l.rules l.states l.places l.masks
-
-abbrev pub decreases-loop-rules : goal.decreases-loop-rules
-decreases-loop-rules l = length l.s - l.at
+abbrev pub invariant-loop-record : goal.invariant-loop-record
+invariant-loop-record l =
+    (l.record-iterator.book.now ≡ l.s) × Outlining l.s l.record-iterator.at l.rules l.states l.places l.masks

@@ -1,70 +1,49 @@
--- `writing::write_lines` meets its contract: the lines of the starts before i are written. The measure is what is left of the tape. Assumes nothing.
-use Prim.Native.Nat.{◌<◌}
-use native.Mathlib.Omega.{arith}
-use lib.ListN.{length}
+-- `write_lines` meets its contract: the lines of the starts before those that are left are written. Assumes nothing.
+use Rattle.std.proofs.Common.{Bor, rules, refl, sym, ap, subst, ◌∙◌}
 use Rattle.book.specs.Reading.{book_of}
-use Rattle.lines.proofs.Listings.{accounting_start, accounting_room, accounting_turn, accounting_end, deciding_here}
-use Rattle.stretches.proofs.Scans.{rights_of}
-use Rattle.stretches.proofs.Remembering.{remembers_start}
+use Rattle.stretches.specs.Ready.{Remembers}
+use Rattle.stretches.specs.declared.pass.Pass.{Pass}
+use Rattle.lines.specs.declared.ends.Starts.{Starts}
+use Rattle.lines.proofs.Listings.{same_pass, accounting_start, deciding_here, accounting_room, accounting_turn, accounting_none, accounting_end}
 use Rattle.lines.proofs.writing.write_lines.Goals as goal
 
-pub loop-i-init : goal.loop-i-init
-loop-i-init c = (
-  accounting_start c.args.book.now c.args.tape.now c.args.rows.now c.args.sets.now c.args.scratch.now c.args.lines.now c.requires.ready c.requires.tape_in_bounds,
-  remembers_start (book_of c.args.book.now),
-)
-
-pub bounds-sets-k : goal.bounds-sets-k
-bounds-sets-k c = omega (arith, c.loop-i.invariant.0.left.below, c.requires.ready.few, c.requires.ready.sets_room)
-
-pub deciding_at-d-requires : goal.deciding_at-d-requires
-deciding_at-d-requires c =
-    record {
-      outlined = c.requires.outlined;
-      right_sets = rights_of c.args.book.now c.args.tape.now c.args.rows.now c.args.sets.now c.args.scratch.now c.requires.ready;
-      i_in_bounds = (c.loop-i.invariant.0.within, c.loop-i.invariant.0.left.is);
-      remembers = c.loop-i.invariant.1;
-    }
-
-pub lines_at-at-requires : goal.lines_at-at-requires
-lines_at-at-requires c =
-    let seen = rights_of c.args.book.now c.args.tape.now c.args.rows.now c.args.sets.now c.args.scratch.now c.requires.ready in
-    let decides = deciding_here c.args.book.now c.args.tape.now c.args.rows.now c.args.sets.now c.args.scratch.now c.args.lines.now c.requires.ready c.loop-i.lines c.loop-i.at
-    c.loop-i.d c.loop-i.k c.loop-i.i c.loop-i.invariant.0 c.deciding_at-d.result c.deciding_at-d.ensures.value in
-    let room = accounting_room c.args.book.now c.args.tape.now c.args.rows.now c.args.sets.now c.args.scratch.now c.args.lines.now c.requires.ready c.loop-i.lines c.loop-i.at
-    c.loop-i.d c.loop-i.k c.loop-i.i c.loop-i.invariant.0 c.deciding_at-d.result c.deciding_at-d.ensures.value in
-    record {
-      outlined = c.requires.outlined;
-      right_sets = seen;
-      from_in_bounds = (c.loop-i.invariant.0.within, c.loop-i.invariant.0.left.is);
-      tape_len_bound = (c.requires.ready.tape_fits, decides);
-      lines_fit = room;
-    }
-
-pub returns-then-i-tape : goal.returns-then-i-tape
-returns-then-i-tape c =
-    accounting_end c.args.book.now c.args.tape.now c.args.rows.now c.args.sets.now c.args.scratch.now c.args.lines.now c.requires.ready c.loop-i.lines c.loop-i.at c.loop-i.d
-    c.loop-i.k c.loop-i.i c.loop-i.invariant.0 c.deciding_at-d.result c.deciding_at-d.ensures.value c.lines_at-at.result c.lines_at-at.new.lines c.lines_at-at.ensures (omega (arith, c.if-i-tape.true))
-
-pub bounds-tape-i : goal.bounds-tape-i
-bounds-tape-i c = omega (arith, c.loop-i.invariant.0.within, c.if-i-tape.false)
-
-pub left_entry-k-requires : goal.left_entry-k-requires
-left_entry-k-requires c =
-    let h : c.loop-i.i < length c.args.tape.now = omega (arith, c.loop-i.invariant.0.within, c.if-i-tape.false) in
-    (omega (arith, c.loop-i.invariant.0.left.below, c.requires.ready.few), c.requires.ready.symbols c.loop-i.i h, c.requires.ready.rows_room)
-
-pub overflow_add-i : goal.overflow_add-i
-overflow_add-i c = omega (arith, c.loop-i.invariant.0.within, c.requires.ready.tape_fits)
-
-pub loop-i-smaller : goal.loop-i-smaller
-loop-i-smaller c = omega (arith, c.loop-i.invariant.0.within, c.if-i-tape.false)
-
-pub loop-i-preserved : goal.loop-i-preserved
-loop-i-preserved c =
-    let h : c.loop-i.i < length c.args.tape.now = omega (arith, c.loop-i.invariant.0.within, c.if-i-tape.false) in (
-      accounting_turn c.args.book.now c.args.tape.now c.args.rows.now c.args.sets.now c.args.scratch.now c.args.lines.now c.requires.ready c.loop-i.lines c.loop-i.at c.loop-i.d
-          c.loop-i.k c.loop-i.i c.loop-i.invariant.0 c.deciding_at-d.result c.deciding_at-d.ensures.value c.lines_at-at.result c.lines_at-at.new.lines c.lines_at-at.ensures h
-          c.left_entry-k.result c.left_entry-k.ensures,
-      c.deciding_at-d.ensures.remembers_2,
+pub loop-start-init : goal.loop-start-init
+loop-start-init c =
+    let made = c.into_iter-start-iterator.ensures.into_iter_gives in (
+      accounting_start _ _ _ (ap (λ (s : Starts). s.pass.now) made ∙ ap (λ (p : Bor Pass). p.now) c.of-start-items.ensures.same_pass)
+          (ap (λ (s : Starts). s.at) made ∙ c.of-start-items.ensures.begin) c.requires,
+      c.new-steps.ensures _,
+      refl,
     )
+
+pub deciding_at-last-requires : goal.deciding_at-last-requires
+deciding_at-last-requires c =
+    let same = same_pass _ _ _ _ _ _ c.loop-start.invariant.0 _ _ c.in-Some.ensures.steps in
+    subst (λ (p : Pass). Remembers (book_of p.walk.outline.states.book.now) c.loop-start.steps) (sym same) c.loop-start.invariant.1
+
+pub lines_at-requires : goal.lines_at-requires
+lines_at-requires c =
+    record {
+      decides = deciding_here _ _ _ _ _ _ c.loop-start.invariant.0 _ _ c.in-Some.ensures.steps _ c.deciding_at-last.ensures.value c.in-Some-last.d c.in-Some-last.is;
+      room = accounting_room _ _ _ _ _ _ c.loop-start.invariant.0 _ _ c.in-Some.ensures.steps _ c.deciding_at-last.ensures.value c.in-Some-last.d c.in-Some-last.is;
+    }
+
+pub loop-start-preserved-in-Some-last : goal.loop-start-preserved-in-Some-last
+loop-start-preserved-in-Some-last c =
+    let same = same_pass _ _ _ _ _ _ c.loop-start.invariant.0 _ _ c.in-Some.ensures.steps in (
+      accounting_turn _ _ _ _ _ _ c.loop-start.invariant.0 _ _ c.in-Some.ensures.steps _ c.deciding_at-last.ensures.value c.in-Some-last.d c.in-Some-last.is
+          _ _ c.lines_at.ensures.put,
+      subst (λ (p : Pass). Remembers (book_of p.walk.outline.states.book.now) c.deciding_at-last.new.steps) same c.deciding_at-last.ensures.remembers,
+      c.lines_at.ensures.same_buffer ∙ c.loop-start.invariant.2,
+    )
+
+pub loop-start-preserved : goal.loop-start-preserved
+loop-start-preserved c =
+    let same = same_pass _ _ _ _ _ _ c.loop-start.invariant.0 _ _ c.in-Some.ensures.steps in (
+      accounting_none _ _ _ _ _ _ c.loop-start.invariant.0 _ _ c.in-Some.ensures.steps _ c.deciding_at-last.ensures.value c.in_default.is,
+      subst (λ (p : Pass). Remembers (book_of p.walk.outline.states.book.now) c.deciding_at-last.new.steps) same c.deciding_at-last.ensures.remembers,
+      c.loop-start.invariant.2,
+    )
+
+pub returns : goal.returns
+returns c = let done = accounting_end _ _ _ _ _ _ c.loop-start.invariant.0 c.in-None.ensures.steps in search (rules, done)

@@ -9,19 +9,10 @@ use Rattle.rewriter.proofs.ready.backward.Goals as goal
 pub loop-i-init : goal.loop-i-init
 loop-i-init c = filled_start c.args.rows.now c.args.tape.now c.args.scratch.now (omega arith)
 
-pub right_entry-number-requires : goal.right_entry-number-requires
-right_entry-number-requires c = (c.requires.symbols (c.loop-i.i - 1) (omega arith), c.requires.row_bytes_in_bounds)
-
-pub bounds-scratch-i-in-loop-i : goal.bounds-scratch-i-in-loop-i
-bounds-scratch-i-in-loop-i c = omega (arith, length-set c.args.scratch.now (length c.args.tape.now) 0)
-
 pub loop-i-preserved : goal.loop-i-preserved
 loop-i-preserved c =
     filled_turn c.args.rows.now c.args.tape.now (set c.args.scratch.now (length c.args.tape.now) 0) c.loop-i.scratch c.loop-i.i (c.loop-i.i - 1) c.loop-i.number c.right_entry-number.result
     (omega arith) (omega arith) (simp length-set (omega arith)) c.right_entry-number.ensures (search rules) c.loop-i.invariant
-
-pub shape_of-scratch : goal.shape_of-scratch
-shape_of-scratch c = omega (arith, length-set c.args.scratch.now (length c.args.tape.now) 0)
 
 pub returns : goal.returns
 returns c =

@@ -4,6 +4,3 @@ use Rattle.rewriter.proofs.ready.backward.Given as goal
 
 abbrev pub invariant-loop-i : goal.invariant-loop-i
 invariant-loop-i l = Filled l.rows l.tape l.initial.scratch l.scratch l.i l.number
-
-abbrev pub decreases-loop-i : goal.decreases-loop-i
-decreases-loop-i l = l.i

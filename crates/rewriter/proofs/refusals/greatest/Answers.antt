@@ -1,17 +1,13 @@
--- `rewriter::refusals::greatest` meets its contract: the greatest so far and what is left give the greatest symbol of the whole tape. Assumes nothing.
-use mathlib.Core.Path.{refl}
-use native.Mathlib.Omega.{arith}
-use Rattle.stretches.proofs.Greatest.{topped_start, topped_more, topped_less, topped_end}
+-- `rewriter::refusals::greatest` meets its contract: the fold is the greatest symbol of the whole tape. Assumes nothing.
+use Rattle.std.proofs.Common.{◌≡◌, rules, ℕ, max, List, [], ◌∷◌, refl, ◌∙◌}
+use Rattle.std.specs.List.{fold}
+use Rattle.stretches.specs.Lists.{greatest}
 use Rattle.rewriter.proofs.refusals.greatest.Goals as goal
 
-pub loop-i-init : goal.loop-i-init
-loop-i-init c = topped_start 0 c.args.tape.now
-
-pub loop-i-preserved-then-top-symbol : goal.loop-i-preserved-then-top-symbol
-loop-i-preserved-then-top-symbol c = topped_more 0 c.args.tape.now c.loop-i.top c.loop-i.i c.loop-i.invariant c.loop-i-test.true _ refl c.if-top-symbol.true
-
-pub loop-i-preserved : goal.loop-i-preserved
-loop-i-preserved c = topped_less 0 c.args.tape.now c.loop-i.top c.loop-i.i c.loop-i.invariant c.loop-i-test.true _ refl (omega arith)
+folds : (l : List ℕ) (n : ℕ) → fold max n l ≡ greatest n l
+unfolding greatest
+folds [] n = refl
+folds (x ∷ l) n = folds l (max n x)
 
 pub returns : goal.returns
-returns c = topped_end 0 c.args.tape.now c.loop-i.top c.loop-i.i c.loop-i.invariant (omega arith)
+returns c = let e : c.fold.result ≡ fold max 0 c.args.tape.now = search rules in e ∙ folds c.args.tape.now 0

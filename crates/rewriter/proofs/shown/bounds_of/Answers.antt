@@ -3,31 +3,20 @@ use native.Mathlib.Omega.{arith}
 use Rattle.rewriter.proofs.Showing.{bounds_short, bounds_crossed, bounds_past, bounds_stretch}
 use Rattle.rewriter.proofs.shown.bounds_of.Goals as goal
 
-pub returns-then-lines-line : goal.returns-then-lines-line
-returns-then-lines-line c =
-    record {
-      value = bounds_short c.args.n c.args.lines.now c.args.line (omega arith);
-      start_le_end = (omega arith, omega arith);
-    }
+pub returns-then-lines-line-clause-value : goal.returns-then-lines-line-clause-value
+returns-then-lines-line-clause-value c = bounds_short c.args.n c.args.lines.now c.args.line (omega arith)
 
-pub returns-then-end-start : goal.returns-then-end-start
-returns-then-end-start c =
-    record {
-      value = bounds_crossed c.args.n c.args.lines.now c.args.line c.wide-start.result c.wide-end.result (omega arith) c.wide-start.ensures c.wide-end.ensures
-          (omega arith);
-      start_le_end = (omega arith, omega arith);
-    }
+pub returns-then-end-start-clause-value : goal.returns-then-end-start-clause-value
+returns-then-end-start-clause-value c =
+    bounds_crossed c.args.n c.args.lines.now c.args.line c.from-start.result c.from-end.result (omega arith) c.from-start.ensures c.from-end.ensures
+    (omega arith)
 
-pub returns-then-n-end : goal.returns-then-n-end
-returns-then-n-end c =
-    record {
-      value = bounds_past c.args.n c.args.lines.now c.args.line c.wide-start.result c.wide-end.result (omega arith) c.wide-start.ensures c.wide-end.ensures (omega arith) (omega arith);
-      start_le_end = (omega arith, omega arith);
-    }
+pub returns-then-n-end-clause-value : goal.returns-then-n-end-clause-value
+returns-then-n-end-clause-value c =
+    bounds_past c.args.n c.args.lines.now c.args.line c.from-start.result c.from-end.result (omega arith) c.from-start.ensures c.from-end.ensures
+    (omega arith) (omega arith)
 
-pub returns : goal.returns
-returns c =
-    record {
-      value = bounds_stretch c.args.n c.args.lines.now c.args.line c.wide-start.result c.wide-end.result (omega arith) c.wide-start.ensures c.wide-end.ensures (omega arith) (omega arith);
-      start_le_end = (omega arith, omega arith);
-    }
+pub returns-clause-value : goal.returns-clause-value
+returns-clause-value c =
+    bounds_stretch c.args.n c.args.lines.now c.args.line c.from-start.result c.from-end.result (omega arith) c.from-start.ensures c.from-end.ensures
+    (omega arith) (omega arith)

@@ -2,7 +2,7 @@
 -- hold the table after that many pairs, and the number of the last step's set is at hand. A number that is written is below the most, by the
 -- two ways to come to it. Assumes nothing.
 use Prim.Native.Nat.{◌<◌}
-use mathlib.Core.Path.{◌∙◌}
+use mathlib.Core.Path.{sym, ◌∙◌}
 use native.Mathlib.Omega.{arith}
 use Rattle.book.specs.Format.{symbol_count}
 use Rattle.book.proofs.Accepted.{is_accepted}
@@ -10,78 +10,60 @@ use Rattle.book.proofs.Sound.{accepted_sound}
 use Rattle.sets.specs.Numbering.{most_sets}
 use Rattle.sets.specs.Sides.{side_table}
 use Rattle.sets.proofs.Rows.{blank, close_first, close_row}
-use Rattle.sets.proofs.At.{clear_rows_lem, clear_sets_lem, before_first, whole, too_many}
-use Rattle.sets.proofs.At.{in_first, in_rest, in_new, in_old, in_full, new_small, old_small}
+use Rattle.sets.proofs.At.{clear_sets_lem, before_first, whole, in_first, in_rest, in_new, in_old, in_full, old_small}
 use Rattle.sets.proofs.numbering.number_sets.Goals as goal
-use Rattle.sets.proofs.numbering.number_sets.Goals.{then-number-count+else-count-eq-MOST_SETS, else-number-count}
+use Rattle.sets.proofs.numbering.number_sets.Goals.{in-Some, in-None+else-count-eq-MOST_SETS}
 
 pub bounds-sets-0 : goal.bounds-sets-0
-bounds-sets-0 c = omega (arith, clear_sets_lem _ _ c.requires.clear)
+bounds-sets-0 c = omega (arith, clear_sets_lem _ _ c.requires)
 
 pub all-init : goal.all-init
-all-init c = before_first _ _ _ _ _ _ c.requires.clear c.close.ensures (c.close.ensures ∙ close_first _ (accepted_sound _ _ (is_accepted _ c.requires.book_value)) _ c.requires.masked _)
+all-init c =
+    before_first _ _ _ _ _ _ c.requires c.close.ensures
+    (c.close.ensures ∙ close_first _ (accepted_sound _ _ (is_accepted _ c.args.outline.now.states.accepted)) _ c.args.outline.now.masked _)
 
-pub side_row-requires : goal.side_row-requires
-side_row-requires c =
-    record {
-      book_value = c.requires.book_value;
-      placed = c.requires.placed;
-      blank = blank;
-    }
+pub make-requires : goal.make-requires
+make-requires c = blank c.args.side 0
 
 pub loop-symbol-init : goal.loop-symbol-init
 loop-symbol-init c =
     in_first _ _ _ _ _ _ _ _ _ _ c.all.invariant c.if-k-count.false
-    (close_row _ (accepted_sound _ _ (is_accepted _ c.requires.book_value)) _ c.requires.masked _ _ _ c.side_row.ensures)
+    (close_row _ (accepted_sound _ _ (is_accepted _ c.args.outline.now.states.accepted)) _ c.args.outline.now.masked _ _ _ c.make.ensures.each)
 
-pub number_of-number-requires : goal.number_of-number-requires
-number_of-number-requires c =
-    record {
-      count_in_bounds = omega arith;
-      number_value = c.loop-symbol.invariant.known;
-    }
+pub number_of-requires : goal.number_of-requires
+number_of-requires c = c.loop-symbol.invariant.known
 
 pub overflow_cast-rows : goal.overflow_cast-rows
 overflow_cast-rows c =
     let t : c.loop-symbol.symbol < symbol_count = omega (arith, c.loop-symbol-test.true, c.steps_end-end.ensures.after.few) in
-    let small : c.number_of-number.result < most_sets =
-    elim c.if-number-count.branch [
-      | then-number-count+else-count-eq-MOST_SETS w ↦ new_small _ _ _ _ _ _ _ _ _ _ _ c.loop-symbol.invariant t c.number_of-number.result c.number_of-number.ensures w.if-number-count.true w.if-count-eq-MOST_SETS.false
-      | else-number-count w ↦ old_small _ _ _ _ _ _ _ _ _ _ _ c.loop-symbol.invariant t c.number_of-number.result c.number_of-number.ensures w.if-number-count.false
+    let i = c.loop-symbol.invariant in
+    let small : c.match-number_of.number < most_sets =
+    elim c.match-number_of.branch [
+      | in-Some w ↦ omega (arith, old_small _ _ _ _ _ _ _ _ _ _ _ i t _ (sym w.in-Some.is ∙ c.number_of.ensures), w.number-is)
+      | in-None+else-count-eq-MOST_SETS w ↦ omega (arith, i.at.small, w.number-is, w.if-count-eq-MOST_SETS.false)
     ] in
     omega arith
 
 pub loop-symbol-preserved : goal.loop-symbol-preserved
 loop-symbol-preserved c =
     let t : c.loop-symbol.symbol < symbol_count = omega (arith, c.loop-symbol-test.true, c.steps_end-end.ensures.after.few) in
-    elim c.if-number-count.branch [
-      | then-number-count+else-count-eq-MOST_SETS w ↦ in_new _ _ _ _ _ _ _ _ _ _ _ c.loop-symbol.invariant t c.number_of-number.result c.number_of-number.ensures _ w.close-then-number-count.ensures _ _ w.if-number-count.true w.if-count-eq-MOST_SETS.false w.sets-is w.count-is
-      | else-number-count w ↦ in_old _ _ _ _ _ _ _ _ _ _ _ c.loop-symbol.invariant t c.number_of-number.result c.number_of-number.ensures _ _ w.if-number-count.false w.sets-is w.count-is
+    let i = c.loop-symbol.invariant in
+    elim c.match-number_of.branch [
+      | in-Some w ↦ in_old _ _ _ _ _ _ _ _ _ _ _ i t _ (sym w.in-Some.is ∙ c.number_of.ensures) _ _ _ w.number-is w.sets-is w.count-is
+      | in-None+else-count-eq-MOST_SETS w ↦ in_new _ _ _ _ _ _ _ _ _ _ _ i t (sym w.in-None.is ∙ c.number_of.ensures) _ w.close-in-None.ensures (omega (arith, i.at.small, w.if-count-eq-MOST_SETS.false)) _ _ _ (omega (arith, w.number-is)) w.sets-is w.count-is
     ]
 
 pub all-preserved : goal.all-preserved
 all-preserved c =
-    in_rest _ _ _ (close_first _ (accepted_sound _ _ (is_accepted _ c.requires.book_value)) _ c.requires.masked _) _ _ _ _ _ _ _ _ _
-    c.loop-symbol.invariant c.steps_end-end.ensures.after c.loop-symbol-test.false
-
-pub shape_of-rows-then-k-count : goal.shape_of-rows-then-k-count
-shape_of-rows-then-k-count c = omega (arith, clear_rows_lem _ _ c.requires.clear)
-
-pub shape_of-sets-then-k-count : goal.shape_of-sets-then-k-count
-shape_of-sets-then-k-count c = omega (arith, clear_sets_lem _ _ c.requires.clear)
+    in_rest _ _ _ (close_first _ (accepted_sound _ _ (is_accepted _ c.args.outline.now.states.accepted)) _ c.args.outline.now.masked _) _ _ _ _ _ _ _ _ _
+    c.loop-symbol.invariant c.steps_end-end.ensures.after (omega arith)
 
 pub returns-then-k-count : goal.returns-then-k-count
 unfolding side_table
 returns-then-k-count c = whole _ _ _ _ _ _ c.all.invariant.at c.if-k-count.true
 
-pub shape_of-rows-then-count-eq-MOST_SETS : goal.shape_of-rows-then-count-eq-MOST_SETS
-shape_of-rows-then-count-eq-MOST_SETS c = omega (arith, clear_rows_lem _ _ c.requires.clear)
-
-pub shape_of-sets-then-count-eq-MOST_SETS : goal.shape_of-sets-then-count-eq-MOST_SETS
-shape_of-sets-then-count-eq-MOST_SETS c = omega (arith, clear_sets_lem _ _ c.requires.clear)
-
 pub returns-then-count-eq-MOST_SETS : goal.returns-then-count-eq-MOST_SETS
 unfolding side_table
 returns-then-count-eq-MOST_SETS c =
     let t : c.loop-symbol.symbol < symbol_count = omega (arith, c.loop-symbol-test.true, c.steps_end-end.ensures.after.few) in
-    too_many _ _ _ _ (in_full _ _ _ _ _ _ _ _ _ _ _ c.loop-symbol.invariant t c.number_of-number.result c.number_of-number.ensures c.if-number-count.true c.if-count-eq-MOST_SETS.true)
+    in_full _ _ _ _ _ _ _ _ _ _ _ c.loop-symbol.invariant t (sym c.in-None.is ∙ c.number_of.ensures) c.if-count-eq-MOST_SETS.true

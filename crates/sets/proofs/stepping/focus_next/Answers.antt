@@ -7,12 +7,5 @@ use Rattle.book.proofs.Sound.{accepted_sound}
 use Rattle.sets.proofs.Meaning.{step_pruned}
 use Rattle.sets.proofs.stepping.focus_next.Goals as goal
 
-pub focus_step-requires : goal.focus_step-requires
-focus_step-requires c =
-    record {
-      book_value = c.requires.book_value;
-      placed = c.requires.placed;
-    }
-
 pub returns : goal.returns
-returns c = ap (λ (x : ℕ). bit_and x c.args.right) c.focus_step.ensures ∙ step_pruned _ (accepted_sound _ _ (is_accepted _ c.requires.book_value)) _ _ _
+returns c = ap (λ (x : ℕ). bit_and x c.args.right) c.focus_step.ensures ∙ step_pruned _ (accepted_sound _ _ (is_accepted _ c.args.states.now.accepted)) _ _ _
