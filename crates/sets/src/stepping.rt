@@ -111,7 +111,7 @@ impl Step for Row {
 
 // Reads the records after a state's own, which stands at `place`, to the end of their rule: once for all states of the set. The number of the first
 // state past them, at most 64, comes back. Here `at` is counted up by a constant in each arm: a step over book's `Records`, which tests the length of each
-// record anew, takes 2.4 times as long and more on the books of bench/, in a model of both loops: BUILD would pass its bar by as much.
+// record anew, takes 2.4 times as long and more in a model of both loops in plain Rust; as proved code it is not measured.
 fn sweep<S: Step>(states: &States, place: usize, state: usize, step: &mut S) -> usize
     requires place_value { place ≡ (state_of (book_of states.now.book.now) state).place }
     requires place_nonzero { 0 < place }
