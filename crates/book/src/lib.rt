@@ -187,6 +187,7 @@ impl Scan {
         }
     }
 
+    #[tactic(auto, using(crate::proofs::Laws::arc_many))]
     fn test_arc(&self, from: u8, low: u8, high: u8, to: u8) -> Result<(), Reason>
         requires { self.now.states ≤ most_states }
         ensures { number_of result ≡ arc_reply from low high to self.now }

@@ -44,13 +44,13 @@ pub returns-then-at-book : goal.returns-then-at-book
 returns-then-at-book c =
     let p = tested _ _ _ _ c.test.ensures.reply c.test.ensures.record _ (placed_ok _ _ _ c.map_err.ensures.cases _ c.in_ok-record.was) in
     let k = sym (ap₂ byte p.book p.place) ∙ sym c.kind-kind.ensures ∙ c.in-4.is in
-    rw c.at.ensures (check_followed _ _ _ c.loop-at.invariant c.loop-at-test.true p.reply k c.if-at-book.true)
+    rw c.at.ensures (check_followed _ _ _ c.loop-at.invariant c.loop-at-test.true p.reply k (omega arith))
 
 pub returns-in-4 : goal.returns-in-4
 returns-in-4 c =
     let p = tested _ _ _ _ c.test.ensures.reply c.test.ensures.record _ (placed_ok _ _ _ c.map_err.ensures.cases _ c.in_ok-record.was) in
     let k = sym (ap₂ byte p.book p.place) ∙ sym c.kind-kind.ensures ∙ c.in-4.is in
-    check_accepted _ _ _ c.loop-at.invariant c.loop-at-test.true p.reply k c.if-at-book.false
+    check_accepted _ _ _ c.loop-at.invariant c.loop-at-test.true p.reply k (omega arith)
 
 pub returns-in-0 : goal.returns-in-0
 returns-in-0 c =
