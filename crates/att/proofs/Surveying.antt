@@ -1,7 +1,10 @@
 -- How far the first pass has come.
 use Prim.Native.Nat.{ℕ, zero, suc, ◌+◌, ◌≤◌, ◌<◌}
 use Rattle.std.specs.Prelude.{Option, Some, None, Ok, Err}
-use Rattle.std.specs.Option.{MatchOption}
+use Rattle.std.specs.Bool.{MatchBool, then_some}
+use Rattle.std.specs.Option.{IfSome, IfNone}
+use Rattle.std.proofs.Common.{MutBor}
+use mathlib.Core.Bool.{Bool, true, false, not}
 use mathlib.Core.Path.{◌≡◌, refl, sym, ◌∙◌, subst}
 use mathlib.Core.List.{List, [], ◌∷◌, ◌++◌}
 use native.Mathlib.Omega.{arith}
@@ -112,10 +115,19 @@ pub lists_some : (known : Known) (more : Option Known) (l : Said) → Lists more
     → Lists more (add_line S l)
 lists_some known more l h S e = subst (λ (T : List ℕ). Lists more (add_line T l)) e h
 
-pub lists_then : (known more : Option Known) (l : Said) (P : Known → Type 0) → MatchOption known (more ≡ None) P
-    → ((k : Known) → P k → Lists more (add_line (states k) l)) → (S : List ℕ) → Lists known S → Lists more (add_line S l)
-lists_then (Some k) more l P h f S e = lists_some k more l (f k h) S e
-lists_then None more l P h f S e = rw h (lists_none S l e)
+pub lists_kept : (P : MutBor Known → Bool → MutBor Known → Type 0) (known taken more : Option Known) (l : Said)
+    → IfNone known ((taken ≡ None) × (more ≡ None))
+    → IfSome known (λ x. (p q : MutBor Known) × (b : Bool) × (p.now ≡ x) × P p b q
+    × MatchBool b ((taken ≡ Some q.now) × (more ≡ None)) ((taken ≡ None) × (more ≡ Some q.now)))
+    → ((p q : MutBor Known) (b : Bool) → P p b q → Lists (then_some (not b) q.now) (add_line (states p.now) l))
+    → (S : List ℕ) → Lists known S → Lists more (add_line S l)
+lists_kept P None taken more l n s f S e = rw n.1 (lists_none S l e)
+lists_kept P (Some k) taken more l n (p, q, b, i, h, m) f S e = lists_some k more l (rw (← i) (by_test b (f p q b h) m)) S e
+  where
+    by_test : (t : Bool) → Lists (then_some (not t) q.now) (add_line (states p.now) l)
+        → MatchBool t ((taken ≡ Some q.now) × (more ≡ None)) ((taken ≡ None) × (more ≡ Some q.now)) → Lists more (add_line (states p.now) l)
+    by_test true g m = rw m.1 g
+    by_test false g m = rw m.1 g
 
 -- the first pass
 pub record Pass (s : List ℕ) (at arcs : ℕ) (known : Option Known) : Type 0 where

@@ -107,6 +107,7 @@ fn judged(arcs: usize, states: usize, first: u8, room: usize) -> Result<usize, R
 impl<'a> Plan<'a> {
     ghost use Rattle.att.specs.Planned.{plan_answer, OfCall};
 
+    #[tactic(auto, using(crate::proofs::Answers::answer_part))]
     pub fn new(text: &'a [u8], part: u8, first: u8, room: usize) -> Result<Plan<'a>, Refusal>
         ensures answer { plan_answer result ≡ answer_of text.now part first room }
         ensures of { OfCall text.now part first room result }

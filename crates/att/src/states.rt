@@ -1,5 +1,6 @@
 // The states of a text, numbered by first appearance.
 ghost use Rattle.std.specs.Prelude.{◌≡◌, ◌≤◌, [], length};
+ghost use Rattle.std.specs.Bool.{then_some};
 ghost use Rattle.book.specs.Format.{most_states};
 
 use crate::reading::Line;
@@ -38,34 +39,33 @@ impl Known {
     pub fn number_of(&self, x: u16) -> Option<usize>
         ensures { result ≡ number_in (states self.now) x }
     {
-        self.list[..self.count].iter().position(|y| *y == x)
+        // `min` tells the compiler what `few` says: it then compares eight at a time
+        let count = self.count.min(book::STATES);
+        self.list[..count].iter().position(|y| *y == x)
     }
 
-    // The states with x; None where they are more than there may be.
-    fn with(self, x: u16) -> Option<Known>
-        ensures { Lists result (add (states self) x) }
+    // Adds x, if it is none of them yet; false where they would be more than there may be.
+    fn add(&mut self, x: u16) -> bool
+        ensures { Lists (then_some result self.new) (add (states self.old) x) }
     {
         if self.number_of(x).is_some() {
-            return Some(self);
+            return true;
         }
         if self.count == book::STATES {
-            return None;
+            return false;
         }
-        let mut list = self.list;
-        list[self.count] = x;
-        Some(Known {
-            list,
-            count: self.count + 1,
-        })
+        self.list[self.count] = x;
+        self.count += 1;
+        true
     }
 
-    // The states with those of a line.
-    pub fn with_line(self, line: Line) -> Option<Known>
-        ensures { Lists result (add_line (states self) (said line)) }
+    // Adds those of a line; false where they would be too many.
+    pub fn add_line(&mut self, line: Line) -> bool
+        ensures { Lists (then_some result self.new) (add_line (states self.old) (said line)) }
     {
         match line {
-            Line::Final { state } => self.with(state),
-            Line::Arc { from, to, .. } => self.with(from)?.with(to), // the source first
+            Line::Final { state } => self.add(state),
+            Line::Arc { from, to, .. } => self.add(from) && self.add(to), // the source first
         }
     }
 }

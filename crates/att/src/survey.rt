@@ -24,7 +24,7 @@ impl Survey {
         // Document 02's form, a struct of text and place that yields a line at a time: nothing is counted
         while let Some(line) = lines.advance()? {
             arcs += line.arcs();
-            known = known.and_then(|known| known.with_line(line));
+            known.take_if(|known| !known.add_line(line));
         }
         Ok(Survey { arcs, known })
     }

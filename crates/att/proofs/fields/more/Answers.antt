@@ -1,4 +1,5 @@
 use Rattle.std.proofs.Common.{arith, ◌∙◌, ap, sym}
+use Rattle.att.specs.Numbers.{capped}
 use Rattle.att.specs.Results.{number_read}
 use Rattle.att.proofs.Results.{passed_on}
 use Rattle.att.proofs.Parting.{checked_read, checked_ok, refused_high, capped_big}
@@ -13,4 +14,4 @@ returns-in_err-tens c =
 pub returns : goal.returns
 returns c =
     let t = checked_ok _ _ _ _ c.checked_mul.ensures c.in_ok-tens.ensures.value in
-    ap number_read c.ok_or-2.ensures.value ∙ checked_read _ _ c.checked_add.ensures ∙ rw (t, c.from.ensures)
+    ap number_read c.ok_or-2.ensures.value ∙ checked_read _ _ c.checked_add.ensures ∙ ap capped (omega (arith, t, c.from.ensures))

@@ -1,15 +1,11 @@
-use Rattle.std.proofs.Common.{arith, sym, ◌∙◌, refl, ap, length, Err}
+use Rattle.std.proofs.Common.{arith, ◌∙◌, refl, ap, length, Err}
 use lib.ListN.{length-take}
 use Rattle.att.specs.Planned.{plan_answer}
 use Rattle.att.specs.Survey.{fresh}
 use Rattle.att.proofs.Results.{passed_on, refused_by}
-use Rattle.att.proofs.Answers.{answer_part}
 use Rattle.att.proofs.Filling.{fresh_most}
 use Rattle.att.proofs.Planning.{planned_refused, planned_many, planned_by, planned_fits, planned_listed, planned_whole, planned_accepted}
 use Rattle.att.proofs.part.Plan.new.Goals as goal
-
-pub returns-then-part-gt-RIGHT-clause-answer : goal.returns-then-part-gt-RIGHT-clause-answer
-returns-then-part-gt-RIGHT-clause-answer c = rw c.at.ensures (sym (answer_part _ _ _ _ (omega arith)))
 
 pub returns-in_err-arcs-clause-answer : goal.returns-in_err-arcs-clause-answer
 returns-in_err-arcs-clause-answer c =

@@ -1,7 +1,7 @@
 use Rattle.std.proofs.Common.{◌∙◌, arith, rules}
 use Rattle.att.specs.Results.{said}
 use Rattle.att.proofs.Results.{passed_on}
-use Rattle.att.proofs.Surveying.{lists_then, pass_start, pass_more, pass_end, pass_refused, line_on}
+use Rattle.att.proofs.Surveying.{lists_kept, pass_start, pass_more, pass_end, pass_refused, line_on}
 use Rattle.att.proofs.survey.Survey.of.Goals as goal
 
 pub loop-line-init : goal.loop-line-init
@@ -22,7 +22,7 @@ loop-line-preserved c =
     let k = rw (c.in-Some.is, c.loop-line.invariant.same) at c.in_ok-line.ensures.line in
     record {
       same = c.in_ok-line.ensures.text ∙ c.loop-line.invariant.same;
-      pass = pass_more _ _ _ _ c.loop-line.invariant.pass (said c.in-Some.line) _ k _ (rw c.arcs-arcs.ensures) _ (lists_then _ _ _ _ c.and_then-known.ensures (λ k p. search rules));
+      pass = pass_more _ _ _ _ c.loop-line.invariant.pass (said c.in-Some.line) _ k _ (rw c.arcs-arcs.ensures) _ (lists_kept _ _ _ _ _ c.take_if.ensures.none c.take_if.ensures.some (λ p q b h. search rules));
     }
 
 pub returns : goal.returns
