@@ -13,6 +13,7 @@ use Rattle.book.specs.declared.Written.{Written}
 use Rattle.book.specs.declared.replies.Refusal.{Refusal}
 use Rattle.att.specs.Text.{Said, Read, accepted, refused, read_text, lines_in, names, arc_count, flags, state_records, written, state_count, needed}
 use Rattle.att.specs.Text.{refusal, answer_by, answer_read, answer_of, import_leaves, import_def}
+use Rattle.att.specs.Results.{written_by}
 use Rattle.att.specs.Survey.{states, Lists, Surveyed, fresh, Filled}
 use Rattle.att.specs.declared.states.Known.{Known}
 use Rattle.att.specs.declared.survey.Survey.{Survey}
@@ -167,3 +168,8 @@ module _ (s : List ℕ) (part first : ℕ) (o : List ℕ) (r : Written) (e : r �
   pub import_done : (out : List ℕ) → r.reply ≡ 0 → Filled out (written part first (lines_in (read_text s))) o → import_leaves r out ≡ import_def s part first o
   unfolding import_def
   import_done out z f = sym (rw (import_def, ← e, eq-eqb r.reply 0 z, ← f.is))
+
+-- with the length that is answered
+pub import_written : (s : List ℕ) (part first : ℕ) (o out : List ℕ) (n bytes : ℕ) → n ≡ bytes → written_by (Ok bytes) ≡ answer_of s part first (length o)
+    → Filled out (written part first (lines_in (read_text s))) o → import_leaves (written_by (Ok n)) out ≡ import_def s part first o
+import_written s part first o out n bytes h e f = import_done s part first o _ (rw h e) out refl f

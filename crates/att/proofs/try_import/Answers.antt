@@ -1,7 +1,7 @@
-use Rattle.std.proofs.Common.{sym, ◌∙◌, ap, refl}
+use Rattle.std.proofs.Common.{arith, sym, ◌∙◌, ap}
 use Rattle.att.specs.Results.{written_by}
 use Rattle.att.proofs.Results.{passed_on, some_number}
-use Rattle.att.proofs.Planning.{import_refused, import_done}
+use Rattle.att.proofs.Planning.{import_refused, import_written}
 use Rattle.att.proofs.try_import.Goals as goal
 
 pub returns-in_err-plan : goal.returns-in_err-plan
@@ -12,4 +12,4 @@ returns-in_err-plan c =
 pub returns : goal.returns
 returns c =
     let p = c.in_ok-plan.ensures.of in
-    import_done _ _ _ _ _ c.in_ok-plan.ensures.answer _ refl (rw (p.part, p.first, p.text) at c.put.ensures)
+    import_written _ _ _ _ _ _ c.in_ok-plan.plan.bytes (omega arith) c.in_ok-plan.ensures.answer (rw (p.part, p.first, p.text) at c.put.ensures)
