@@ -104,6 +104,7 @@ impl<'a> Writer<'a> {
     }
 
     // Writes the word of the stretch that is taken at a free position, if one is.
+    #[tactic(auto, using(crate::proofs::Positions::some_fits))]
     fn write_taken(&self, i: usize, spot: Spot, steps: &mut Steps, to: &mut Outputs) -> Spot
         requires i_in_bounds { i ≤ length (along self.now.pass) }
         requires standing { Standing self.now.pass i spot }
@@ -203,7 +204,7 @@ impl<'a> Writer<'a> {
         };
         let mut spot = FRONT;
         for i in 0..self.pass.walk.tape.len() {
-            spot = self.write_position(i, spot, &mut steps, &mut to);
+            spot = self.write_position(i, spot, &mut steps, &mut to); // behind what stands so far
         }
         let last = self.write_taken(self.pass.walk.tape.len(), spot, &mut steps, &mut to); // a word put in at the tape's end
         Size {
