@@ -1,8 +1,8 @@
 -- What REWRITE and ACCOUNT share leaves everything ready: the ways of `ready_def`, in their order, and from reply 0 all that the forward passes
 -- stand on. The number that the backward pass walks to is the number of the right set there. Assumes nothing.
-use Prim.Native.Nat.{ℕ, zero, suc, ◌+◌, ◌≤◌}
+use Prim.Native.Nat.{ℕ, zero, suc, ◌+◌, ◌<◌, ◌≤◌}
 use mathlib.Core.Path.{◌≡◌, refl, sym, ap, ap₂, ◌∙◌, subst}
-use mathlib.Core.Bool.{Bool, true, false, cond, ◌||◌}
+use mathlib.Core.Bool.{Bool, true, false, cond, ◌||◌, false≢true}
 use lib.Dec.{ltb}
 use mathlib.Core.List.{List, [], ◌∷◌}
 use native.Mathlib.Omega.{arith}
@@ -11,11 +11,19 @@ use native.Mathlib.Decide.{ℕ_discrete}
 use native.Mathlib.Numerals.{add-one}
 use lib.ListN.{length, drop, get_or}
 use borrow.Author.Tests.{eq-eqb, ne_eqb}
+use Rattle.std.specs.Prelude.{Result, Ok, Err}
+use Rattle.std.specs.Result.{is_ok}
 use Rattle.book.specs.Reading.{Book, check_def, book_of}
+use Rattle.book.specs.declared.replies.Refusal as declared
+use Rattle.book.specs.declared.replies.Reason.{Reason}
+use Rattle.book.specs.Refusals.{number}
+use Rattle.book.proofs.Refusals.{number_some}
 use Rattle.sets.specs.Sets.{right_at}
 use Rattle.sets.specs.Numbering.{most_sets}
 use Rattle.sets.specs.Workspace.{AfterBuild, row_bytes, set_words, left_table, right_table, unchanged, cleared, filled, numbered, build_leaves, build_def}
 use Rattle.sets.specs.Tables.{right_set, Tape}
+use Rattle.sets.specs.Results.{built}
+use Rattle.sets.specs.declared.Counts.{Counts}
 use Rattle.sets.specs.declared.Built.{Built}
 use Rattle.sets.proofs.Tables.{tables, right_walk, right_number_lem}
 use Rattle.rewriter.specs.Replies.{Refusal, refusal, early, right_numbers, AfterReady, ready_leaves, ready_def}
@@ -110,6 +118,22 @@ module _ (book tape rows sets scratch : List ℕ) where
           ∙ ap (λ (l : List ℕ). ready_leaves (refusal building.answer.reply 0) building.rows building.sets (onto l scratch))
           (right_numbers_lem book rows sets tape y' opening_admitted.symbols)
           ∙ sym (ready_is z y')
+
+-- for `make_ready`, in whatever form its code tests the result of the build: what is counted is not refused
+pub counted : (x : Result Counts declared.Refusal) → is_ok x ≡ true → (built x).reply ≡ 0
+counted (Ok n) h = refl
+counted (Err e) h = absurd (false≢true h)
+
+-- and what is refused is handed on, found from `ready_def` alone
+pub handed_on : (book tape rows sets scratch : List ℕ) → (opening book tape rows sets scratch).reply ≡ 0 → 0 < (build_def book rows sets).answer.reply
+    → ready_def book tape rows sets scratch
+    ≡ ready_leaves (refusal (build_def book rows sets).answer.reply (build_def book rows sets).answer.place) (build_def book rows sets).rows (build_def book rows sets).sets scratch
+handed_on book tape rows sets scratch z h =
+    let b = build_def book rows sets in
+    sym (leaves_unbuilt book tape rows sets scratch z b.answer b.rows b.sets refl (λ y. omega arith))
+
+pub number_over : (r : Reason) → 0 < number r
+number_over r = omega (arith, number_some r)
 
 -- the ways, in the order of the replies
 pub data ReadyWay (book tape rows sets scratch : List ℕ) (x : AfterReady) : Type 0 where

@@ -31,6 +31,7 @@ pub(crate) fn backward(tape: &[u8], rows: &[u8], scratch: &mut [u8])
 
 // The replies of the build, 13 and 14, where none came before them; where it is not refused the workspace holds the book's two automata, and the scratch
 // the numbers of the tape's right sets.
+#[tactic(auto, using(crate::proofs::MakeReady::handed_on, crate::proofs::MakeReady::number_over))]
 pub(crate) fn make_ready(
     outline: &Outline,
     tape: &[u8],
