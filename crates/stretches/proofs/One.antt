@@ -15,6 +15,10 @@ use Rattle.stretches.proofs.walk.Rules.first_set.Kinds as first-kinds
 use Rattle.stretches.proofs.walk.Rules.first_set.Reads as first_reads
 use Rattle.stretches.proofs.walk.Rules.hits.Kinds as hits-kinds
 use Rattle.stretches.proofs.walk.Rules.hits.Reads as hits-reads
+use Rattle.stretches.proofs.walk.Walk.first_set.Kinds as walk-first-kinds
+use Rattle.stretches.proofs.walk.Walk.first_set.Reads as walk-first-reads
+use Rattle.stretches.proofs.walk.Walk.hits.Kinds as walk-hits-kinds
+use Rattle.stretches.proofs.walk.Walk.hits.Reads as walk-hits-reads
 use Rattle.stretches.proofs.walk.Walk.taken_at.Kinds as taken-kinds
 use Rattle.stretches.proofs.walk.Walk.taken_at.Reads as taken-reads
 
@@ -23,6 +27,13 @@ one_first κs a x y v w p q = (p.1 ∙ sym q.1, refl)
 
 pub one_hits : Determined 2 hits-kinds.ps hits-kinds.r (Called 2 hits-kinds.ps hits-kinds.r hits-reads.Pre hits-reads.Post)
 one_hits κs a x y v w p q = (p.1 ∙ sym q.1, refl)
+
+-- the same of the walk's own, which the passes call
+pub one_walk_first : Determined 2 walk-first-kinds.ps walk-first-kinds.r walk-first-reads.Post
+one_walk_first κs a x y v w p q = (p ∙ sym q, refl)
+
+pub one_walk_hits : Determined 2 walk-hits-kinds.ps walk-hits-kinds.r (Called 2 walk-hits-kinds.ps walk-hits-kinds.r walk-hits-reads.Pre walk-hits-reads.Post)
+one_walk_hits κs a x y v w p q = (p.1 ∙ sym q.1, refl)
 
 -- an answer is given by its end and its rule
 one_answer : (i : ℕ) (x y : Option Taken) → IfSome x (λ t. t.rule < most_rules) → IfSome y (λ t. t.rule < most_rules) → end_of i x ≡ end_of i y → rule_in x ≡ rule_in y → x ≡ y
