@@ -1,12 +1,16 @@
 -- Before the lanes: each way out of `begin` is what the definition says; and after it the whole call is what its definition says. Assumes nothing.
 use Prim.Native.Nat.{ℕ, ◌≤◌, ◌<◌}
 use mathlib.Core.Path.{◌≡◌, refl, sym, ap, subst, ◌∙◌}
-use mathlib.Core.Bool.{Bool, true, false, cond}
+use mathlib.Core.Bool.{Bool, true, false, cond, false≢true}
 use mathlib.Core.List.{List}
+use native.Mathlib.Omega.{arith}
 use lib.Dec.{ltb, eqb}
 use lib.ListN.{length}
 use borrow.Author.Tests.{eq-eqb, ne_eqb, lt-ltb, le-ltb}
+use Rattle.std.specs.Prelude.{Result, Ok, Err}
+use Rattle.std.specs.Result.{is_ok}
 use Rattle.book.specs.Reading.{check_def}
+use Rattle.book.specs.declared.replies.Refusal.{Refusal}
 use Rattle.book.specs.declared.Checked.{Checked}
 use Rattle.sets.specs.Workspace.{AfterBuild, refusal, build_leaves, build_def}
 use Rattle.sets.specs.declared.Built.{Built}
@@ -15,7 +19,7 @@ use Rattle.sets.proofs.Tables.{way_refused, as_built}
 use Rattle.heat.specs.declared.Lane.{Lane}
 use Rattle.heat.specs.Lanes.{Leaving, leaving, AfterLanes, lanes_leave, lane_def, in_turn}
 use Rattle.heat.specs.Heats.{most_lanes, heated, AfterHeat, heat_leaves, after_build, heat_def}
-use Rattle.heat.specs.Begins.{AfterBegin, begins, begins_built, begin_def}
+use Rattle.heat.specs.Begins.{heated_of, AfterBegin, begins, begins_built, begin_def}
 
 module _ (book : List ℕ) (n : ℕ) (R S : List ℕ) where
   pub begin_many : most_lanes < n → begins (heated 16 0) R S ≡ begin_def book n R S
@@ -40,6 +44,11 @@ module _ (book : List ℕ) (n : ℕ) (R S : List ℕ) where
   begin_as_built b R' S' is z =
       let e : AfterBuild → Type 0 = λ x. AsBuilt book x.rows x.sets in
       subst e (sym is) (as_built book R S (sym (ap (λ (x : AfterBuild). x.answer.reply) is) ∙ z))
+
+-- for `begin`, in whatever form its code tests CHECK's result: what is refused is handed on, found from `begin_def` alone
+pub begin_handed_on : (book : List ℕ) (n : ℕ) (R S : List ℕ) → n ≤ most_lanes → 0 < (check_def book).reply
+    → begin_def book n R S ≡ begins (heated (check_def book).reply (check_def book).place) R S
+begin_handed_on book n R S few h = sym (begin_unchecked book n R S few (check_def book) refl (λ z. omega arith))
 
 -- ---- the whole call, by what `begin` left: refused, or the lanes in turn
 module _ (book tapes : List ℕ) (xs : List Lane) (R S X O G : List ℕ) where
@@ -72,3 +81,14 @@ module _ (book tapes : List ℕ) (xs : List Lane) (R S X O G : List ℕ) where
         let t : heat_leaves d.answer r.lanes d.rows d.sets r.left.scratch r.left.out r.left.origins ≡ told d =
         simp (eq-eqb _ _ z) (ap (λ (y : AfterLanes). heat_leaves d.answer y.lanes d.rows d.sets y.left.scratch y.left.out y.left.origins) e) in
         t ∙ ap told is ∙ begun_told
+
+-- for `try_heat`, in whatever form its code tests the result of `begin`: what is refused is handed on, found from `heat_def` alone
+pub heat_handed_on : (book tapes : List ℕ) (xs : List Lane) (R S X O G : List ℕ) → 0 < (begin_def book (length xs) R S).answer.reply
+    → heat_def book tapes xs R S X O G
+    ≡ heat_leaves (begin_def book (length xs) R S).answer xs (begin_def book (length xs) R S).rows (begin_def book (length xs) R S).sets X O G
+heat_handed_on book tapes xs R S X O G h = sym (heat_stopped book tapes xs R S X O G (begin_def book (length xs) R S) refl (λ z. omega arith))
+
+-- and what is not refused has the answer of a call whose lanes have their replies
+pub started : {A : Type 0} → (x : Result A Refusal) → is_ok x ≡ true → heated_of x ≡ heated 0 0
+started (Ok n) h = refl
+started (Err e) h = absurd (false≢true h)

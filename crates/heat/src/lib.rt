@@ -78,6 +78,7 @@ impl From<Result<(), Refusal>> for Heated {
 }
 
 // Before the lanes: 16, then BUILD, once for all of them. The book is read here, for that counts the rules that each lane's passes are lent.
+#[tactic(auto, using(crate::proofs::Begins::begin_handed_on, rewriter::proofs::MakeReady::number_over))]
 fn begin(book: &[u8], lanes: usize, rows: &mut [u8], sets: &mut [u64]) -> Result<usize, Refusal>
     ensures begun { begins (heated_of result) rows.new sets.new ≡ begin_def book.now lanes rows.old sets.old }
     ensures built { IfOk result (λ rules. AsBuilt book.now rows.new sets.new × (rules ≡ length (book_of book.now).words)) }
@@ -153,6 +154,7 @@ pub fn heat(
 }
 
 // HEAT as a result: that the lanes have their replies, or the refusal of the whole call.
+#[tactic(auto, using(crate::proofs::Begins::heat_handed_on, rewriter::proofs::MakeReady::number_over))]
 pub fn try_heat(
     book: &[u8],
     tapes: &[u8],

@@ -1,17 +1,11 @@
 -- `heat::try_heat` meets its contract: `begin` starts the lanes, or refuses; each lane's turn is `here_next`, and after the last one the whole call is
 -- what the definition says (`heat_ran`). Assumes nothing.
-use Rattle.std.proofs.Common.{◌≡◌, Err, refl, arith, rules}
-use Rattle.book.proofs.Refusals.{number_some}
-use Rattle.heat.proofs.Begins.{heat_stopped, heat_ran}
+use Rattle.std.proofs.Common.{◌≡◌, true, refl, arith, rules}
+use Rattle.std.specs.Result.{is_ok}
+use Rattle.heat.proofs.Begins.{heat_ran, started}
 use Rattle.heat.proofs.Places.{lane_roomy}
 use Rattle.heat.proofs.Turns.{here_start, here_next, here_end}
 use Rattle.heat.proofs.try_heat.Goals as goal
-
-pub returns-in_err-rules : goal.returns-in_err-rules
-returns-in_err-rules c =
-    let e = c.in_err-rules.field-0.0 in
-    let z : c.from_residual.result ≡ Err e = search rules in
-    rw z (heat_stopped _ _ _ _ _ _ _ _ _ c.in_err-rules.ensures.begun (number_some e.reason))
 
 pub loop-lane-init : goal.loop-lane-init
 loop-lane-init c = here_start _ (lane_roomy _ _ _ _) _ _ refl
@@ -25,5 +19,6 @@ loop-lane-preserved c =
 
 pub returns : goal.returns
 returns c =
-    heat_ran _ _ _ _ _ _ _ _ _ c.in_ok-rules.ensures.begun refl _
+    let passed : is_ok c.begin.result ≡ true = search rules in
+    heat_ran _ _ _ _ _ _ _ _ _ (rw (started _ passed) at c.begin.ensures.begun) refl _
     (here_end _ (lane_roomy _ _ _ _) _ _ _ _ _ c.loop-lane.invariant (omega arith))
