@@ -47,7 +47,10 @@ fn symbol(b: u8) -> u8
 }
 
 // The lines of REWRITE: W and O, or X; whether the tape was accepted.
-fn rewrite_tape(text: &mut Text<'_, impl Print>, tape: &[u8]) -> io::Result<bool> {
+fn rewrite_tape(text: &mut Text<'_, impl Print>, tape: &[u8]) -> io::Result<bool>
+    ensures same { (text.new.bytes.ghost_name ≡ text.old.bytes.ghost_name) × (text.new.rt ≡ text.old.rt) }
+    ensures same_length { length text.new.bytes.now ≡ length text.old.bytes.now }
+{
     let book = house::house_book();
     let mut rows = [0u8; sets::ROW_BYTES];
     let mut sets = [0u64; sets::SET_WORDS];
@@ -76,7 +79,10 @@ fn rewrite_tape(text: &mut Text<'_, impl Print>, tape: &[u8]) -> io::Result<bool
 }
 
 // The lines of ACCOUNT: a C line for each candidate, or X.
-fn account_tape(text: &mut Text<'_, impl Print>, tape: &[u8]) -> io::Result<()> {
+fn account_tape(text: &mut Text<'_, impl Print>, tape: &[u8]) -> io::Result<()>
+    ensures same { (text.new.bytes.ghost_name ≡ text.old.bytes.ghost_name) × (text.new.rt ≡ text.old.rt) }
+    ensures same_length { length text.new.bytes.now ≡ length text.old.bytes.now }
+{
     let book = house::house_book();
     let mut rows = [0u8; sets::ROW_BYTES];
     let mut sets = [0u64; sets::SET_WORDS];
@@ -89,7 +95,10 @@ fn account_tape(text: &mut Text<'_, impl Print>, tape: &[u8]) -> io::Result<()> 
 }
 
 // All lines of one tape. "A refusal prints X, number, place, and ends that tape; for a short account it follows W and O."
-fn answer(text: &mut Text<'_, impl Print>, tape: &[u8]) -> io::Result<()> {
+fn answer(text: &mut Text<'_, impl Print>, tape: &[u8]) -> io::Result<()>
+    ensures same { (text.new.bytes.ghost_name ≡ text.old.bytes.ghost_name) × (text.new.rt ≡ text.old.rt) }
+    ensures same_length { length text.new.bytes.now ≡ length text.old.bytes.now }
+{
     if rewrite_tape(text, tape)? {
         account_tape(text, tape)?;
     }
@@ -97,13 +106,16 @@ fn answer(text: &mut Text<'_, impl Print>, tape: &[u8]) -> io::Result<()> {
 }
 
 // Answers each line that ends in the chunk.
-fn answer_lines(text: &mut Text<'_, impl Print>, tape: &mut Tape, chunk: &[u8]) -> io::Result<()> {
+fn answer_lines(text: &mut Text<'_, impl Print>, tape: &mut Tape, chunk: &[u8]) -> io::Result<()>
+    ensures same { (text.new.bytes.ghost_name ≡ text.old.bytes.ghost_name) × (text.new.rt ≡ text.old.rt) }
+    ensures same_length { length text.new.bytes.now ≡ length text.old.bytes.now }
+{
     for b in chunk {
         if *b == b'\n' {
             answer(text, tape.as_slice())?;
             tape.clear();
-        } else {
-            let _ = tape.try_push(symbol(*b)); // past what is kept, nothing
+        } else if !tape.is_full() {
+            tape.push(symbol(*b));
         }
     }
     Ok(())
@@ -115,7 +127,9 @@ fn read_some(
     chunk: &mut [u8],
     text: &mut Text<'_, impl Print>,
 ) -> io::Result<usize>
-    ensures { IfOk result (λ got. got ≤ length chunk.new) }
+    ensures within { IfOk result (λ got. got ≤ length chunk.new) }
+    ensures same { (text.new.bytes.ghost_name ≡ text.old.bytes.ghost_name) × (text.new.rt ≡ text.old.rt) }
+    ensures same_length { length text.new.bytes.now ≡ length text.old.bytes.now }
 {
     let got = reader.read(chunk);
     if got.is_err() {
@@ -125,7 +139,10 @@ fn read_some(
 }
 
 // "A last line needs no newline." An empty one is no line. Then what is left of the text goes out.
-fn finish(text: &mut Text<'_, impl Print>, tape: &Tape) -> io::Result<()> {
+fn finish(text: &mut Text<'_, impl Print>, tape: &Tape) -> io::Result<()>
+    ensures same { (text.new.bytes.ghost_name ≡ text.old.bytes.ghost_name) × (text.new.rt ≡ text.old.rt) }
+    ensures same_length { length text.new.bytes.now ≡ length text.old.bytes.now }
+{
     if !tape.is_empty() {
         answer(text, tape.as_slice())?;
     }
@@ -138,7 +155,10 @@ fn run(
     chunk: &mut [u8],
     text: &mut Text<'_, impl Print>,
     tape: &mut Tape,
-) -> io::Result<()> {
+) -> io::Result<()>
+    ensures same { (text.new.bytes.ghost_name ≡ text.old.bytes.ghost_name) × (text.new.rt ≡ text.old.rt) }
+    ensures same_length { length text.new.bytes.now ≡ length text.old.bytes.now }
+{
     for _ in 0..u64::MAX {
         let got = read_some(reader, chunk, text)?;
         if got == 0 {

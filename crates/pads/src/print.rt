@@ -1,12 +1,11 @@
 // The lines that the program prints: W, O, C and X.
-ghost use Rattle.std.specs.Prelude.{◌≡◌};
+ghost use Rattle.std.specs.Prelude.{◌≡◌, length};
 ghost use Rattle.pads.specs.Digits.{digit_of};
 
 use book::LAST_SYMBOL;
 use book::replies::Refusal;
 use rewriter::LINE_WORDS;
 use std::io;
-use std::io::Write;
 use text::Text;
 
 // The symbol of the first letter.
@@ -24,8 +23,11 @@ fn digit(s: u8) -> u8
     }
 }
 
-// Each number with a blank before it, and the line's end. They are most of what is printed, so they go past the formatter.
-fn put_numbers(text: &mut Text<'_, impl Print>, numbers: &[u16]) -> io::Result<()> {
+// Each number with a blank before it, and the line's end.
+fn put_numbers(text: &mut Text<'_, impl Print>, numbers: &[u16]) -> io::Result<()>
+    ensures same { (text.new.bytes.ghost_name ≡ text.old.bytes.ghost_name) × (text.new.rt ≡ text.old.rt) }
+    ensures same_length { length text.new.bytes.now ≡ length text.old.bytes.now }
+{
     for number in numbers {
         text.put(b' ')?;
         text.put_number(u64::from(*number))?;
@@ -33,11 +35,26 @@ fn put_numbers(text: &mut Text<'_, impl Print>, numbers: &[u16]) -> io::Result<(
     text.put(b'\n')
 }
 
+// Two numbers, a blank between them.
+fn put_pair(text: &mut Text<'_, impl Print>, a: u64, b: u64) -> io::Result<()>
+    ensures same { (text.new.bytes.ghost_name ≡ text.old.bytes.ghost_name) × (text.new.rt ≡ text.old.rt) }
+    ensures same_length { length text.new.bytes.now ≡ length text.old.bytes.now }
+{
+    text.put_number(a)?;
+    text.put(b' ')?;
+    text.put_number(b)
+}
+
 // W: output length, stretches taken, symbols.
-fn put_w(text: &mut Text<'_, impl Print>, taken: usize, out: &[u8]) -> io::Result<()> {
-    write!(text, "W {} {taken} ", out.len())?;
+fn put_w(text: &mut Text<'_, impl Print>, taken: usize, out: &[u8]) -> io::Result<()>
+    ensures same { (text.new.bytes.ghost_name ≡ text.old.bytes.ghost_name) × (text.new.rt ≡ text.old.rt) }
+    ensures same_length { length text.new.bytes.now ≡ length text.old.bytes.now }
+{
+    text.put_all(b"W ")?;
+    put_pair(text, out.len() as u64, taken as u64)?;
+    text.put(b' ')?;
     if out.is_empty() {
-        text.put(b'-')?;
+        return text.put_all(b"-\n");
     }
     for s in out {
         text.put(digit(*s))?;
@@ -46,7 +63,10 @@ fn put_w(text: &mut Text<'_, impl Print>, taken: usize, out: &[u8]) -> io::Resul
 }
 
 // O: origins.
-fn put_o(text: &mut Text<'_, impl Print>, origins: &[u16]) -> io::Result<()> {
+fn put_o(text: &mut Text<'_, impl Print>, origins: &[u16]) -> io::Result<()>
+    ensures same { (text.new.bytes.ghost_name ≡ text.old.bytes.ghost_name) × (text.new.rt ≡ text.old.rt) }
+    ensures same_length { length text.new.bytes.now ≡ length text.old.bytes.now }
+{
     if origins.is_empty() {
         return text.put_all(b"O -\n");
     }
@@ -59,13 +79,19 @@ pub(crate) fn put_output(
     taken: usize,
     out: &[u8],
     origins: &[u16],
-) -> io::Result<()> {
+) -> io::Result<()>
+    ensures same { (text.new.bytes.ghost_name ≡ text.old.bytes.ghost_name) × (text.new.rt ≡ text.old.rt) }
+    ensures same_length { length text.new.bytes.now ≡ length text.old.bytes.now }
+{
     put_w(text, taken, out)?;
     put_o(text, origins)
 }
 
 // C: the words of each candidate.
-pub(crate) fn put_account(text: &mut Text<'_, impl Print>, lines: &[u16]) -> io::Result<()> {
+pub(crate) fn put_account(text: &mut Text<'_, impl Print>, lines: &[u16]) -> io::Result<()>
+    ensures same { (text.new.bytes.ghost_name ≡ text.old.bytes.ghost_name) × (text.new.rt ≡ text.old.rt) }
+    ensures same_length { length text.new.bytes.now ≡ length text.old.bytes.now }
+{
     for words in lines.chunks_exact(LINE_WORDS) {
         text.put(b'C')?;
         put_numbers(text, words)?;
@@ -74,6 +100,15 @@ pub(crate) fn put_account(text: &mut Text<'_, impl Print>, lines: &[u16]) -> io:
 }
 
 // X: reply number, place.
-pub(crate) fn put_refusal(text: &mut Text<'_, impl Print>, refusal: Refusal) -> io::Result<()> {
-    writeln!(text, "X {} {}", refusal.reason.number(), refusal.place)
+pub(crate) fn put_refusal(text: &mut Text<'_, impl Print>, refusal: Refusal) -> io::Result<()>
+    ensures same { (text.new.bytes.ghost_name ≡ text.old.bytes.ghost_name) × (text.new.rt ≡ text.old.rt) }
+    ensures same_length { length text.new.bytes.now ≡ length text.old.bytes.now }
+{
+    text.put_all(b"X ")?;
+    put_pair(
+        text,
+        u64::from(refusal.reason.number()),
+        refusal.place as u64,
+    )?;
+    text.put(b'\n')
 }
