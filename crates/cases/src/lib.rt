@@ -151,7 +151,11 @@ pub fn report(
         b"WRONG ".as_slice()
     })?;
     line.put_all(operation)?;
-    write!(line, " {} {} ", want.reply, want.place)?;
+    line.put(b' ')?;
+    line.put_number(u64::from(want.reply))?;
+    line.put(b' ')?;
+    line.put_number(want.place as u64)?;
+    line.put(b' ')?;
     line.put_all(note)?;
     line.put(b'\n')?;
     line.flush()

@@ -105,19 +105,29 @@ fn answer(text: &mut Text<'_, impl Print>, tape: &[u8]) -> io::Result<()>
     Ok(())
 }
 
+// Adds the characters of a line's next piece to the tape, as many as are kept.
+fn keep(tape: &mut Tape, piece: &[u8]) {
+    for b in piece {
+        if tape.is_full() {
+            return;
+        }
+        tape.push(symbol(*b));
+    }
+}
+
 // Answers each line that ends in the chunk.
 fn answer_lines(text: &mut Text<'_, impl Print>, tape: &mut Tape, chunk: &[u8]) -> io::Result<()>
     ensures same { (text.new.bytes.ghost_name ≡ text.old.bytes.ghost_name) × (text.new.rt ≡ text.old.rt) }
     ensures same_length { length text.new.bytes.now ≡ length text.old.bytes.now }
 {
-    for b in chunk {
-        if *b == b'\n' {
-            answer(text, tape.as_slice())?;
-            tape.clear();
-        } else if !tape.is_full() {
-            tape.push(symbol(*b));
-        }
+    let mut rest = chunk;
+    while let Some(end) = rest.iter().position(|b| *b == b'\n') {
+        keep(tape, &rest[..end]);
+        answer(text, tape.as_slice())?;
+        tape.clear();
+        rest = &rest[end + 1..];
     }
+    keep(tape, rest);
     Ok(())
 }
 
