@@ -1,6 +1,8 @@
 // The lines that the program prints: W, O, C and X.
-ghost use Rattle.std.specs.Prelude.{◌≡◌, length};
+ghost use Rattle.std.specs.Prelude.{◌≡◌, ◌++◌, length, OnOk};
+ghost use Rattle.text.specs.Text.{holds, put_all};
 ghost use Rattle.pads.specs.Digits.{digit_of};
+ghost use Rattle.pads.specs.Lines.{pair, numbers_line, w_line, o_line, x_line};
 
 use book::LAST_SYMBOL;
 use book::replies::Refusal;
@@ -24,7 +26,9 @@ fn digit(s: u8) -> u8
 }
 
 // Each number with a blank before it, and the line's end.
+#[tactic(auto, using(crate::proofs::Lines::next_number), unfolding(text::specs::Text::put_all))]
 fn put_numbers(text: &mut Text<'_, impl Print>, numbers: &[u16]) -> io::Result<()>
+    ensures put { OnOk result (holds text.new.bytes.now text.new.used ≡ put_all (holds text.old.bytes.now text.old.used) (numbers_line numbers.now)) }
     ensures same { (text.new.bytes.ghost_name ≡ text.old.bytes.ghost_name) × (text.new.rt ≡ text.old.rt) }
     ensures same_length { length text.new.bytes.now ≡ length text.old.bytes.now }
 {
@@ -36,7 +40,9 @@ fn put_numbers(text: &mut Text<'_, impl Print>, numbers: &[u16]) -> io::Result<(
 }
 
 // Two numbers, a blank between them.
+#[tactic(auto, using(text::proofs::Putting::all_append), unfolding(text::specs::Text::put_all))]
 fn put_pair(text: &mut Text<'_, impl Print>, a: u64, b: u64) -> io::Result<()>
+    ensures put { OnOk result (holds text.new.bytes.now text.new.used ≡ put_all (holds text.old.bytes.now text.old.used) (pair a b)) }
     ensures same { (text.new.bytes.ghost_name ≡ text.old.bytes.ghost_name) × (text.new.rt ≡ text.old.rt) }
     ensures same_length { length text.new.bytes.now ≡ length text.old.bytes.now }
 {
@@ -46,7 +52,9 @@ fn put_pair(text: &mut Text<'_, impl Print>, a: u64, b: u64) -> io::Result<()>
 }
 
 // W: output length, stretches taken, symbols.
+#[tactic(auto, using(text::proofs::Putting::all_append), unfolding(text::specs::Text::put_all))]
 fn put_w(text: &mut Text<'_, impl Print>, taken: usize, out: &[u8]) -> io::Result<()>
+    ensures put { OnOk result (holds text.new.bytes.now text.new.used ≡ put_all (holds text.old.bytes.now text.old.used) (w_line taken out.now)) }
     ensures same { (text.new.bytes.ghost_name ≡ text.old.bytes.ghost_name) × (text.new.rt ≡ text.old.rt) }
     ensures same_length { length text.new.bytes.now ≡ length text.old.bytes.now }
 {
@@ -63,7 +71,9 @@ fn put_w(text: &mut Text<'_, impl Print>, taken: usize, out: &[u8]) -> io::Resul
 }
 
 // O: origins.
+#[tactic(auto, using(text::proofs::Putting::all_append), unfolding(text::specs::Text::put_all))]
 fn put_o(text: &mut Text<'_, impl Print>, origins: &[u16]) -> io::Result<()>
+    ensures put { OnOk result (holds text.new.bytes.now text.new.used ≡ put_all (holds text.old.bytes.now text.old.used) (o_line origins.now)) }
     ensures same { (text.new.bytes.ghost_name ≡ text.old.bytes.ghost_name) × (text.new.rt ≡ text.old.rt) }
     ensures same_length { length text.new.bytes.now ≡ length text.old.bytes.now }
 {
@@ -74,12 +84,14 @@ fn put_o(text: &mut Text<'_, impl Print>, origins: &[u16]) -> io::Result<()>
     put_numbers(text, origins)
 }
 
+#[tactic(auto, using(text::proofs::Putting::all_append), unfolding(text::specs::Text::put_all))]
 pub(crate) fn put_output(
     text: &mut Text<'_, impl Print>,
     taken: usize,
     out: &[u8],
     origins: &[u16],
 ) -> io::Result<()>
+    ensures put { OnOk result (holds text.new.bytes.now text.new.used ≡ put_all (holds text.old.bytes.now text.old.used) (w_line taken out.now ++ o_line origins.now)) }
     ensures same { (text.new.bytes.ghost_name ≡ text.old.bytes.ghost_name) × (text.new.rt ≡ text.old.rt) }
     ensures same_length { length text.new.bytes.now ≡ length text.old.bytes.now }
 {
@@ -100,7 +112,9 @@ pub(crate) fn put_account(text: &mut Text<'_, impl Print>, lines: &[u16]) -> io:
 }
 
 // X: reply number, place.
+#[tactic(auto, using(text::proofs::Putting::all_append), unfolding(text::specs::Text::put_all))]
 pub(crate) fn put_refusal(text: &mut Text<'_, impl Print>, refusal: Refusal) -> io::Result<()>
+    ensures put { OnOk result (holds text.new.bytes.now text.new.used ≡ put_all (holds text.old.bytes.now text.old.used) (x_line refusal)) }
     ensures same { (text.new.bytes.ghost_name ≡ text.old.bytes.ghost_name) × (text.new.rt ≡ text.old.rt) }
     ensures same_length { length text.new.bytes.now ≡ length text.old.bytes.now }
 {

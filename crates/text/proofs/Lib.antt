@@ -1,4 +1,4 @@
--- A law of putting.
+-- The laws of putting.
 pub mod Putting
 -- That contracts determine results.
 pub mod One
