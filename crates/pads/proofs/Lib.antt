@@ -1,3 +1,4 @@
 pub mod Fits
 pub mod HouseFits
+pub mod Kept
 pub mod Lines

@@ -29,6 +29,10 @@ symbol_of b =
     (cond (among first_letter after_letters b) (letters_from + (b - first_letter))
     symbol_count)
 
+-- the symbols of a line's characters
+abbrev pub symbols_of : List ℕ → List ℕ
+symbols_of bs = map (λ (b : ℕ). symbol_of b) bs
+
 -- the character of a symbol; a question mark where there is none
 unfoldable pub digit_of : ℕ → ℕ
 digit_of s = cond (ltb s letters_from) (first_number + s) (cond (ltb s symbol_count) (first_letter + (s - letters_from)) 63)

@@ -1,8 +1,9 @@
 // Document 01's program: tapes as lines of digits, 0 to 9 and a to v, on standard input, each rewritten and accounted for by the house book.
 #![tactic(auto)]
 
-ghost use Rattle.std.specs.Prelude.{◌≡◌, ◌≤◌, length, IfOk};
-ghost use Rattle.pads.specs.Digits.{symbol_of};
+ghost use Rattle.std.specs.Prelude.{◌≡◌, ◌≤◌, ◌-◌, ◌++◌, length, take, IfOk};
+ghost use Rattle.arrayvec.specs.ArrayVec.{array_vec_len};
+ghost use Rattle.pads.specs.Digits.{symbol_of, symbols_of};
 
 mod print; // print.rt: the lines printed
 
@@ -106,7 +107,10 @@ fn answer(text: &mut Text<'_, impl Print>, tape: &[u8]) -> io::Result<()>
 }
 
 // Adds the characters of a line's next piece to the tape, as many as are kept.
-fn keep(tape: &mut Tape, piece: &[u8]) {
+#[tactic(auto, using(crate::proofs::Kept::next, crate::proofs::Kept::all))]
+fn keep(tape: &mut Tape, piece: &[u8])
+    ensures { tape.new.items ≡ tape.old.items ++ take (KEPT - array_vec_len tape.old) (symbols_of piece.now) }
+{
     for b in piece {
         if tape.is_full() {
             return;
