@@ -136,6 +136,7 @@ pub fn front<'a>(bytes: &'a [u8], n: usize) -> &'a [u8]
     bytes
 }
 
+// Numbers go by `put_number`: what `write!` puts into a text no contract says.
 pub fn report(
     rt: &impl Print,
     ok: bool,

@@ -1,4 +1,4 @@
-// The lines that the program prints: W, O, C and X.
+// The lines that the program prints: W, O, C and X. Numbers go by `put_number`: what `write!` puts into a text no contract says.
 ghost use Rattle.std.specs.Prelude.{◌≡◌, ◌++◌, length, OnOk};
 ghost use Rattle.text.specs.Text.{holds, put_all};
 ghost use Rattle.pads.specs.Digits.{digit_of};
